@@ -1,0 +1,10 @@
+pub mod WordsAndOctets
+pub mod WrittenFront
+pub mod GoodFile
+pub mod RowsOfJudged
+pub mod Settles
+pub mod GivenExactly
+pub mod AfterAnswer
+pub mod RoundTrip
+pub mod Samples
+pub mod Main

@@ -1,0 +1,106 @@
+-- `packed::read_words` meets its contract. The invariant of its loop: `o` is `3 + 2 i`, i is at most `count`, and `words` holds
+-- the first i words that the file spells and its own from there on. The measure is `count` less i. Assumes nothing.
+use mathlib.Core.Path.{_≡_, sym, _∙_}
+use mathlib.Core.List.{_++_}
+use Prim.Native.Nat.{_+_, _*_, _-_, _≤_, _<_}
+use native.Mathlib.Omega.{arith}
+use borrow.Author.Needs.{needs}
+use lib.ListN.{length, take, drop, getD}
+use Rattle.packed.specs.File.{wordsIn}
+use Rattle.packed.proofs.WordsAndOctets.{length-wordsIn, wordsIn-at}
+use Rattle.answers.proofs.WrittenFromFront.{all-over, store-next}
+use Rattle.packed.proofs.read_words.Statement.{statement}
+use Rattle.packed.proofs.read_words.Tie as tie
+
+abbrev Inv-loop : tie.InvT-loop
+Inv-loop file words₀ count i₀ o₀ words i o =
+    (o ≡ 3 + 2 * i) × ((i ≤ count) × ((length words ≡ length words₀) × (words ≡ take i (wordsIn file) ++ drop i words₀)))
+
+abbrev μ-loop : tie.MeasureT-loop
+μ-loop file words₀ count i₀ o₀ words i o = count - i
+
+loop-holds : tie.Need-loop-holds Inv-loop μ-loop
+loop-holds c = search needs
+
+shared-slice-read-word : tie.Need-shared-slice-read-word Inv-loop μ-loop
+shared-slice-read-word c = search needs
+
+add-word : tie.Need-add-word Inv-loop μ-loop
+add-word c = search needs
+
+shared-slice-read-word-2 : tie.Need-shared-slice-read-word-2 Inv-loop μ-loop
+shared-slice-read-word-2 c = search needs
+
+word-requires : tie.Need-word-requires Inv-loop μ-loop
+word-requires c κs = search needs
+
+mul-words : tie.Need-mul-words Inv-loop μ-loop
+mul-words c = search needs
+
+slice-write-words : tie.Need-slice-write-words Inv-loop μ-loop
+slice-write-words c = search needs
+
+add-o : tie.Need-add-o Inv-loop μ-loop
+add-o c = search needs
+
+add-i : tie.Need-add-i Inv-loop μ-loop
+add-i c = search needs
+
+loop-less : tie.Need-loop-less Inv-loop μ-loop
+loop-less c = search needs
+
+loop-again : tie.Need-loop-again Inv-loop μ-loop
+loop-again c =
+    let at-loop = c .before .before .before .before in
+    let at-start = at-loop .before .before .before in
+    let i = at-loop .loop .i in
+    let file = at-start .args .file .now in
+    let words₀ = at-start .args .words .now in
+    let count = at-start .args .count in
+    let more : i < count = search needs in
+    let v : c .word .result ≡ getD (wordsIn file) i 0 =
+    c .word .ensures ∙ sym (wordsIn-at file count i (at-loop .loop .o) (search needs) more (search needs)) in (
+      search needs,
+      (
+        search needs,
+        (
+          search needs,
+          rw (at-loop .loop .inv .1 .1 .1, v)
+              (store-next (wordsIn file) words₀ i (omega (arith, length-wordsIn file count (search needs))) (search needs)),
+        ),
+      ),
+    )
+
+same-length : tie.Need-same-length Inv-loop μ-loop
+same-length c = search needs
+
+returns : tie.Need-returns Inv-loop μ-loop
+returns c =
+    let at-loop = c .before in
+    let at-start = at-loop .before .before .before in
+    let file = at-start .args .file .now in
+    let words₀ = at-start .args .words .now in
+    let count = at-start .args .count in
+    let past : at-loop .loop .i ≡ count = omega arith in
+    at-loop .loop .inv .1 .1 .1
+    ∙ all-over (wordsIn file) words₀ (at-loop .loop .i) (length-wordsIn file count (search needs) ∙ sym past)
+
+pub read-words-spec : {M : Type 1} → statement M
+read-words-spec =
+    tie.close
+    (tie.spec
+    Inv-loop
+    μ-loop
+    loop-holds
+    shared-slice-read-word
+    add-word
+    shared-slice-read-word-2
+    word-requires
+    mul-words
+    slice-write-words
+    add-o
+    add-i
+    loop-less
+    loop-again
+    same-length
+    returns)

@@ -1,0 +1,3 @@
+pub mod File
+pub mod Promise
+pub mod Judged

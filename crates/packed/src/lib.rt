@@ -1,0 +1,152 @@
+// The packed grammar file: version octet 1, the number of octets that follow as two octets, then each word as two
+// octets, high octet first. `unpack` reads a file into words, and `pack` writes words as a file. Neither looks at
+// grammar shape, and neither has a `requires`: what the input can break is answered by a refusal, which changes no
+// buffer.
+ghost use mathlib.Core.Path.{_≡_};
+ghost use Prim.Native.Nat.{_+_, _*_, _/_, _%_, _≤_};
+ghost use lib.ListN.{length, take};
+ghost use Rattle.packed.specs.File.{wordOf, wordsIn, fileOf};
+ghost use Rattle.answers.specs.Buffers.{over};
+ghost use Rattle.packed.specs.Promise.{Unpacked, Packed};
+ghost use Rattle.packed.specs.Judged.{Judged};
+
+// What both answer: the length written, or the refusal's number and place.
+pub enum FileAnswer {
+    Done(usize),
+    Refused { number: u16, place: usize },
+}
+
+const VERSION: u8 = 1;
+
+// Where the version stands in a file, and the length: the places of refusals 1 and 2.
+const VERSION_PLACE: usize = 0;
+
+const LENGTH_PLACE: usize = 1;
+
+// The octets before the first word.
+const HEADER: usize = 3;
+
+// The most words that a file can hold, and the most octets after its header: two for each word.
+const MOST_WORDS: usize = 8707;
+
+const MOST_OCTETS: usize = 2 * MOST_WORDS;
+
+// The word that two octets spell, the high one first.
+fn word(high: u8, low: u8) -> u16
+    ensures { λ r. ⌜ r ≡ wordOf high low ⌝ }
+{
+    (high as u16) * 256 + (low as u16)
+}
+
+// A word's first octet, and its second.
+fn high(w: u16) -> u8
+    ensures { λ r. ⌜ r ≡ w / 256 ⌝ }
+{
+    (w / 256) as u8
+}
+
+fn low(w: u16) -> u8
+    ensures { λ r. ⌜ r ≡ w % 256 ⌝ }
+{
+    (w % 256) as u8
+}
+
+fn refuse(number: u16, place: usize) -> FileAnswer
+    ensures { λ r. ⌜ r ≡ FileAnswer.Refused number place ⌝ }
+{
+    FileAnswer::Refused { number, place }
+}
+
+// Judges the file alone: Done carries how many words it holds.
+fn judge(file: &[u8]) -> FileAnswer
+    ensures { λ r. ⌜ Judged (now (file .entry)) r ⌝ }
+{
+    let all = file.len();
+    if all == 0 {
+        return refuse(answers::NOT_VERSION_ONE, VERSION_PLACE);
+    }
+    if file[VERSION_PLACE] != VERSION {
+        return refuse(answers::NOT_VERSION_ONE, VERSION_PLACE);
+    }
+    if all < HEADER {
+        return refuse(answers::BAD_LENGTH, LENGTH_PLACE);
+    }
+    let said = word(file[LENGTH_PLACE], file[LENGTH_PLACE + 1]) as usize;
+    if said % 2 != 0 {
+        return refuse(answers::BAD_LENGTH, LENGTH_PLACE);
+    }
+    if MOST_OCTETS < said {
+        return refuse(answers::BAD_LENGTH, LENGTH_PLACE);
+    }
+    if said != all - HEADER {
+        return refuse(answers::BAD_LENGTH, LENGTH_PLACE);
+    }
+    FileAnswer::Done(said / 2)
+}
+
+// Writes the words that the octets after the header spell into the front of words.
+fn read_words(file: &[u8], words: &mut [u16], count: usize)
+    requires { ⌜ length (now file) ≡ 3 + 2 * count ⌝ }
+    requires { ⌜ count ≤ length (now words) ⌝ }
+    ensures { λ _. ⌜ now (words .exit) ≡ over (wordsIn (now (file .entry))) (now (words .entry)) ⌝ }
+{
+    let mut i: usize = 0;
+    let mut o: usize = HEADER;
+    while i < count {
+        words[i] = word(file[o], file[o + 1]);
+        o += 2;
+        i += 1;
+    }
+}
+
+// Reads a file into words. Done carries how many words were written.
+pub fn unpack(file: &[u8], words: &mut [u16]) -> FileAnswer
+    ensures { λ r. ⌜ Unpacked (now (file .entry)) (now (words .entry)) r (now (words .exit)) ⌝ }
+{
+    let judged = judge(file);
+    let FileAnswer::Done(count) = judged else {
+        return judged;
+    };
+    if words.len() < count {
+        return refuse(answers::TOO_SHORT, count);
+    }
+    read_words(file, words, count);
+    judged
+}
+
+// Writes the two octets of each word, from the header on. Up to there file holds the header already.
+fn write_words(words: &[u16], file: &mut [u8])
+    requires { ⌜ 3 + 2 * length (now words) ≤ length (now file) ⌝ }
+    requires { ⌜ take 3 (now file) ≡ take 3 (fileOf (now words)) ⌝ }
+    ensures { λ _. ⌜ now (file .exit) ≡ over (fileOf (now (words .entry))) (now (file .entry)) ⌝ }
+{
+    let mut i: usize = 0;
+    let mut o: usize = HEADER;
+    while i < words.len() {
+        let w = words[i];
+        file[o] = high(w);
+        file[o + 1] = low(w);
+        o += 2;
+        i += 1;
+    }
+}
+
+// Writes words as a file. Done carries how many octets were written.
+pub fn pack(words: &[u16], file: &mut [u8]) -> FileAnswer
+    ensures { λ r. ⌜ Packed (now (words .entry)) (now (file .entry)) r (now (file .exit)) ⌝ }
+{
+    let count = words.len();
+    if MOST_WORDS < count {
+        return refuse(answers::BAD_LENGTH, MOST_WORDS);
+    }
+    let needed = HEADER + 2 * count;
+    if file.len() < needed {
+        return refuse(answers::TOO_SHORT, needed);
+    }
+    let octets = (2 * count) as u16;
+    file[VERSION_PLACE] = VERSION;
+    file[LENGTH_PLACE] = high(octets);
+    file[LENGTH_PLACE + 1] = low(octets);
+    write_words(words, file);
+    FileAnswer::Done(needed)
+}
