@@ -1,0 +1,76 @@
+-- Figures that saturate. A cap is a monotone map of costs through which sums may pass at any step: what is summed of capped parts
+-- and capped again is the cap of the sum. A limit is a property of costs that the cap decides, and below which the cap changes
+-- nothing. Document 01's measure is capped at L + 1 for the limit L: the sums never wrap, and are above L exactly where the true
+-- ones are. Assumes nothing.
+use Prim.Native.Nat.{ℕ, suc, _<_, min}
+use native.Mathlib.Omega.{arith}
+use mathlib.Core.Path.{_≡_, ap, _∙_}
+use mathlib.Core.Logic.{_↔_}
+use Rattle.grammar.specs.Measure.{Cost, plain}
+
+pub record Cap (c : Cost) : Type 0 where
+  pub cap : c .C → c .C
+  pub cap-zero : cap (c .𝟎) ≡ c .𝟎
+  pub cap-mono : {x y : c .C} → c ._≼_ x y → c ._≼_ (cap x) (cap y)
+  pub cap-sum : (x y : c .C) → cap (c ._⊕_ x y) ≡ cap (c ._⊕_ (cap x) (cap y))
+
+-- Over is kept by sums, not by ≼: costs may be compared by one part first and limited by their whole.
+pub record Limit (c : Cost) (κ : Cap c) : Type 1 where
+  pub Over : c .C → Type 0
+  pub decided : (x : c .C) → Over (κ .cap x) ↔ Over x
+  pub exact : (x : c .C) → ¬ Over x → κ .cap x ≡ x
+  pub over-sum : (x y : c .C) → Over x → Over (c ._⊕_ x y)
+
+-- at the limit L: a sum that would pass L + 1 stays there
+abbrev pub plainCap : ℕ → Cap plain
+plainCap L = record {
+  cap = λ x. min x (suc L);
+  cap-zero = omega arith;
+  cap-mono = λ h. omega arith;
+  cap-sum = λ x y. omega arith;
+}
+
+abbrev pub plainLimit : (L : ℕ) → Limit plain (plainCap L)
+plainLimit L = record {
+  Over = λ x. L < x;
+  decided = λ x. (λ h. omega arith, λ h. omega arith);
+  exact = λ x h. omega arith;
+  over-sum = λ x y h. omega arith;
+}
+
+module _ {c : Cost} (κ : Cap c) where
+  open Cost c using (C, 𝟎, _⊕_, _≼_, assoc, unit, comm, mono)
+  open Cap κ using (cap, cap-zero, cap-mono, cap-sum)
+
+  infixl 60 _⊕_
+  infix 40 _≼_
+  -- what is capped stays so
+  pub cap-cap : (x : C) → cap (cap x) ≡ cap x
+  cap-cap x = cc (cap-sum 𝟎 x, cap-zero, unit x, unit (cap x))
+
+  -- a sum may be capped as it grows
+  pub cap-left : (x y : C) → cap (cap x ⊕ y) ≡ cap (x ⊕ y)
+  cap-left x y = cc (cap-sum (cap x) y, cap-sum x y, cap-cap x)
+
+  pub cap-right : (x y : C) → cap (x ⊕ cap y) ≡ cap (x ⊕ y)
+  cap-right x y = cc (cap-sum x (cap y), cap-sum x y, cap-cap y)
+
+  pub cap-step : (x y z : C) → cap (cap (x ⊕ y) ⊕ z) ≡ cap (x ⊕ (y ⊕ z))
+  cap-step x y z = cap-left (x ⊕ y) z ∙ ap cap (assoc x y z)
+
+  -- the cap of a sum depends on the caps of its parts alone, and grows with them
+  pub cap-same : {x y z u : C} → cap x ≡ cap y → cap z ≡ cap u → cap (x ⊕ z) ≡ cap (y ⊕ u)
+  cap-same {x} {y} {z} {u} h k = cc (cap-sum x z, cap-sum y u)
+
+  pub cap-below : {x y z u : C} → cap x ≼ cap y → cap z ≼ cap u → cap (x ⊕ z) ≼ cap (y ⊕ u)
+  cap-below {x} {y} {z} {u} h k = rw (cap-sum x z, cap-sum y u) (cap-mono (mono h k))
+
+  -- the parts of a sum that is not over are not over
+  module _ (limit : Limit c κ) where
+    open Limit limit using (Over, over-sum)
+
+    pub part-left : {x y : C} → ¬ Over (x ⊕ y) → ¬ Over x
+    part-left {x} {y} n h = n (over-sum x y h)
+
+    pub part-right : {x y : C} → ¬ Over (x ⊕ y) → ¬ Over y
+    part-right {x} {y} n h = n (rw (comm x y) (over-sum y x h))

@@ -1,0 +1,190 @@
+-- Figures for a grammar, tested by computing: one pass over the rules and their places, and one over the nonterminals. Figures
+-- that pass are document 01's least, chosen rule, context, context rule, place and total: the test is that of FigureCertificate,
+-- with comparisons for its statements. Assumes nothing.
+use Prim.Native.Nat.{ℕ, zero, suc, _+_, _≤_, _<_}
+use native.Mathlib.Omega.{arith}
+use native.Mathlib.Decide.{decLt}
+use mathlib.Core.Path.{_≡_, refl, sym, ap, _∙_}
+use mathlib.Core.Logic.{_⊎_, inl, inr}
+use mathlib.Core.Bool.{Bool, true, false, _&&_, _||_, So, and-eq-true-iff}
+use mathlib.Core.List.{List, [], _∷_}
+use mathlib.Core.Option.{Option, some, none}
+use lib.Dec.{ltb, leb, eqb}
+use lib.ListN.{getElem?}
+use borrow.Author.Tests.{ltb-true, leb-true, eqb-true}
+use Rattle.grammar.specs.Words.{Grammar, Rule, _⟶_, RuleAt, InBounds}
+use Rattle.grammar.proofs.ContextCertificate.{Holds}
+use Rattle.grammar.proofs.FigureCertificate.{Figures, AreFigures, sizeBy, besideBy, Attains, Leads}
+use Rattle.grammar.proofs.FigureCertificate.{FigureCertificate, figure-certificate}
+
+-- TESTS. x is below y, or they are equal and b: with x smallest, b is asked where it is attained
+abbrev pub firstly : ℕ → ℕ → Bool → Bool
+firstly x y b = ltb x y || (eqb x y && b)
+
+firstly-holds : (x y : ℕ) (b : Bool) → So (firstly x y b) → (x < y) ⊎ ((x ≡ y) × So b)
+firstly-holds x y b t = go (ltb x y) refl t
+  where
+    go : (c : Bool) → ltb x y ≡ c → So (c || (eqb x y && b)) → (x < y) ⊎ ((x ≡ y) × So b)
+    go true h t = inl (ltb-true x y h)
+    go false h t = let z = and-eq-true-iff (eqb x y) b .0 t in inr (eqb-true x y (z .0), z .1)
+
+firstly-below : (x y : ℕ) (b : Bool) → So (firstly x y b) → x ≤ y
+firstly-below x y b t = go (firstly-holds x y b t)
+  where
+    go : (x < y) ⊎ ((x ≡ y) × So b) → x ≤ y
+    go (inl l) = omega arith
+    go (inr z) = omega (arith, z .0)
+
+firstly-equal : (x y : ℕ) (b : Bool) → So (firstly x y b) → x ≡ y → So b
+firstly-equal x y b t e = go (firstly-holds x y b t)
+  where
+    go : (x < y) ⊎ ((x ≡ y) × So b) → So b
+    go (inl l) = absurd (omega arith)
+    go (inr z) = z .1
+
+-- of each element of a list, with its number
+abbrev pub every : {X : Type 0} → (ℕ → X → Bool) → List X → Bool
+every f [] = true
+every f (x ∷ xs) = f 0 x && every (λ i. f (suc i)) xs
+
+every-at : {X : Type 0} (f : ℕ → X → Bool) (xs : List X) → So (every f xs) →
+    (i : ℕ) (x : X) → getElem? xs i ≡ some x → So (f i x)
+every-at f [] t i x e = absurd (let z : _≡_ {A = ℕ} 0 1 = cc in omega arith)
+every-at f (y ∷ xs) t zero x e =
+    let same : y ≡ x = cc in rw same at (and-eq-true-iff (f 0 y) (every (λ i. f (suc i)) xs) .0 t .0)
+every-at f (y ∷ xs) t (suc i) x e =
+    every-at (λ i. f (suc i)) xs (and-eq-true-iff (f 0 y) (every (λ i. f (suc i)) xs) .0 t .1) i x e
+
+-- of each number below n
+abbrev pub each : (ℕ → Bool) → ℕ → Bool
+each f zero = true
+each f (suc n) = f n && each f n
+
+pub each-at : (f : ℕ → Bool) (n : ℕ) → So (each f n) → (k : ℕ) → k < n → So (f k)
+each-at f zero t k l = absurd (omega arith)
+each-at f (suc n) t k l = let z = and-eq-true-iff (f n) (each f n) .0 t in go (decLt k n) (each-at f n (z .1) k) (z .0)
+  where
+    go : Dec (k < n) → (k < n → So (f k)) → So (f n) → So (f k)
+    go (yes h) again last = again h
+    go (no h) again last = let e : k ≡ n = omega arith in rw e last
+
+-- of what is there
+abbrev pub there : {X : Type 0} → (X → Bool) → Option X → Bool
+there f none = false
+there f (some x) = f x
+
+there-holds : {X : Type 0} (f : X → Bool) (o : Option X) → So (there f o) → (x : X) × (o ≡ some x) × So (f x)
+there-holds f none t = absurd (let z : _≡_ {A = ℕ} 0 1 = cc in omega arith)
+there-holds f (some x) t = (x, refl, t)
+
+otherwise : (a b : Bool) → So (a || b) → ¬ So a → So b
+otherwise true b t n = absurd (n refl)
+otherwise false b t n = t
+
+module _ (g : Grammar) (F : Figures) where
+  open Figures F using (least, chosen, context, rule, place, total)
+
+  abbrev size : List ℕ → ℕ
+  size = sizeBy g F
+
+  abbrev beside : List ℕ → ℕ → ℕ
+  beside = besideBy g F
+
+  -- at place i of rule k, B ⟶ w, which holds A
+  abbrev pub place-test : ℕ → ℕ → List ℕ → ℕ → ℕ → Bool
+  place-test k B w i A = leb (g .N) A || firstly (context A) (context B + beside w i) (firstly (rule A) k (leb (place A) i))
+
+  abbrev pub rule-test : ℕ → Rule → Bool
+  rule-test k (B ⟶ w) =
+      firstly (least B) (size w) (leb (chosen B) k) && (eqb (total k) (context B + size w) && every (place-test k B w) w)
+
+  -- the rule of the choice is one of A, of the least size
+  abbrev pub chosen-test : ℕ → Rule → Bool
+  chosen-test A (B ⟶ w) = eqb B A && eqb (least A) (size w)
+
+  -- the rule of the context choice has A at the place, and comes to the context
+  abbrev pub choice-test : ℕ → Rule → Bool
+  choice-test A (B ⟶ w) =
+      ltb B (g .N) && (there (eqb A) (getElem? w (place A)) && eqb (context A) (context B + beside w (place A)))
+
+  abbrev pub chosen-passes : ℕ → Bool
+  chosen-passes A = there (chosen-test A) (getElem? (g .rules) (chosen A))
+
+  abbrev pub choice-passes : ℕ → Bool
+  choice-passes A = eqb A (g .start) || there (choice-test A) (getElem? (g .rules) (rule A))
+
+  abbrev pub figures? : Bool
+  figures? = eqb (context (g .start)) 0 && (every rule-test (g .rules) && each (λ A. chosen-passes A && choice-passes A) (g .N))
+
+  module _ (passes : So figures?) where
+    at-start : context (g .start) ≡ 0
+    at-start = eqb-true _ 0 (and-eq-true-iff (eqb (context (g .start)) 0) _ .0 passes .0)
+
+    both : So (every rule-test (g .rules)) × So (each (λ A. chosen-passes A && choice-passes A) (g .N))
+    both = and-eq-true-iff _ _ .0 (and-eq-true-iff (eqb (context (g .start)) 0) _ .0 passes .1)
+
+    choices-pass : (A : ℕ) → A < g .N → So (chosen-passes A) × So (choice-passes A)
+    choices-pass A lt =
+        and-eq-true-iff (chosen-passes A) _ .0 (each-at (λ A. chosen-passes A && choice-passes A) (g .N) (both .1) A lt)
+
+    rule-passes : (k B : ℕ) (w : List ℕ) → RuleAt g k B w → So (rule-test k (B ⟶ w))
+    rule-passes k B w r = every-at rule-test (g .rules) (both .0) k (B ⟶ w) (r .stands)
+
+    size-passes : (k B : ℕ) (w : List ℕ) → RuleAt g k B w → So (firstly (least B) (size w) (leb (chosen B) k))
+    size-passes k B w r = and-eq-true-iff (firstly (least B) (size w) (leb (chosen B) k)) _ .0 (rule-passes k B w r) .0
+
+    others-pass : (k B : ℕ) (w : List ℕ) → RuleAt g k B w → (total k ≡ context B + size w) × So (every (place-test k B w) w)
+    others-pass k B w r =
+        let z = and-eq-true-iff (firstly (least B) (size w) (leb (chosen B) k)) _ .0 (rule-passes k B w r) .1 in
+        let y = and-eq-true-iff (eqb (total k) (context B + size w)) _ .0 z in
+        (eqb-true (total k) _ (y .0), y .1)
+
+    place-passes : (k B : ℕ) (w : List ℕ) (i A : ℕ) → RuleAt g k B w → Holds w i A → A < g .N →
+        So (firstly (context A) (context B + beside w i) (firstly (rule A) k (leb (place A) i)))
+    place-passes k B w i A r h lt =
+        let t = every-at (place-test k B w) w (others-pass k B w r .1) i A h in
+        otherwise (leb (g .N) A) _ t (λ e. omega (arith, leb-true (g .N) A e))
+
+    chosen-attains : (A : ℕ) → A < g .N → Attains g F A (chosen A)
+    chosen-attains A lt = go (there-holds (chosen-test A) (getElem? (g .rules) (chosen A)) (choices-pass A lt .0))
+      where
+        go : (ρ : Rule) × (getElem? (g .rules) (chosen A) ≡ some ρ) × So (chosen-test A ρ) → Attains g F A (chosen A)
+        go (B ⟶ w, e, t) =
+            let z = and-eq-true-iff (eqb B A) (eqb (least A) (size w)) .0 t in
+            let same : B ≡ A = eqb-true B A (z .0) in
+            (w, record { stands = rw same at e; left = lt }, eqb-true (least A) (size w) (z .1))
+
+    choice-attains : (A : ℕ) → A < g .N → ¬ (A ≡ g .start) → Leads g F A (rule A) (place A)
+    choice-attains A lt other =
+        let t = otherwise (eqb A (g .start)) _ (choices-pass A lt .1) (λ e. other (eqb-true A (g .start) e)) in
+        go (there-holds (choice-test A) (getElem? (g .rules) (rule A)) t)
+      where
+        go : (ρ : Rule) × (getElem? (g .rules) (rule A) ≡ some ρ) × So (choice-test A ρ) → Leads g F A (rule A) (place A)
+        go (B ⟶ w, e, t) =
+            let z = and-eq-true-iff (ltb B (g .N)) _ .0 t in
+            let y = and-eq-true-iff (there (eqb A) (getElem? w (place A))) _ .0 (z .1) in
+            let (s, h, same) = there-holds (eqb A) (getElem? w (place A)) (y .0) in
+            let at : RuleAt g (rule A) B w = record { stands = e; left = ltb-true B (g .N) (z .0) } in
+            (B, w, at, h ∙ ap some (sym (eqb-true A s same)), eqb-true (context A) _ (y .1))
+
+    order : (A j h : ℕ) → (rule A < j) ⊎ ((rule A ≡ j) × So (leb (place A) h)) → (rule A < j) ⊎ ((rule A ≡ j) × (place A ≤ h))
+    order A j h (inl l) = inl l
+    order A j h (inr z) = inr (z .0, leb-true (place A) h (z .1))
+
+    -- SOUND: figures that pass have the certificate, so they are document 01's
+    pub figures-certified : FigureCertificate g F
+    figures-certified = record {
+      least-below = λ k A w r. firstly-below (least A) (size w) (leb (chosen A) k) (size-passes k A w r);
+      chosen-attains = chosen-attains;
+      chosen-lowest = λ k A w r e. leb-true (chosen A) k (firstly-equal (least A) (size w) _ (size-passes k A w r) e);
+      context-start = at-start;
+      context-below = λ k B w i A r h lt. firstly-below (context A) _ _ (place-passes k B w i A r h lt);
+      choice-attains = choice-attains;
+      choice-first = λ k B w i A r h lt d e.
+          let t = firstly-equal (context A) _ _ (place-passes k B w i A r h lt) e in
+          order A k i (firstly-holds (rule A) k (leb (place A) i) t);
+      totals = λ r A w at. others-pass r A w at .0;
+    }
+
+    pub figures : InBounds g → AreFigures g F
+    figures ok = figure-certificate g F ok .0 figures-certified

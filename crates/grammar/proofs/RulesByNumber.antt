@@ -1,0 +1,129 @@
+-- The rules of words by number: what is promised of any words, by the facts that decide it, and what that is where the words are
+-- a grammar: the indexes found are the places of its rules, in order, and what stands at the place of rule k is rule k.
+-- Assumes nothing.
+use mathlib.Core.Path.{_≡_, refl, ap, sym, _∙_}
+use mathlib.Core.List.{List, [], _∷_}
+use Prim.Native.Nat.{ℕ, zero, suc, _+_, _-_, _≤_, _<_}
+use native.Mathlib.Nat.{add-zero, zero-add}
+use native.Mathlib.Decide.{decLt}
+use native.Mathlib.Omega.{arith}
+use lib.ListN.{length, take, drop, getD, List·getD-append}
+use borrow.Author.Tests.{le-leb, lt-leb}
+use Rattle.answers.specs.Buffers.{over}
+use Rattle.grammar.specs.Words.{Grammar, R, RuleAt, reads, layout}
+use Rattle.grammar.specs.Walk.{countAt, walkStart, stepAt, ruleStep}
+use Rattle.grammar.specs.Rules.{startsBy, startsFrom, rightAt}
+use Rattle.grammar.specs.declared.walk.RuleSpan.{RuleSpan}
+use Rattle.grammar.specs.declared.walk.Walk.{Walk}
+use Rattle.grammar.specs.declared.walk.Step.{Step}
+use Rattle.grammar.specs.declared.walk.Step.the-variants.{Rule, End}
+use Rattle.grammar.proofs.LayoutExact.{in-bounds, rule-at}
+use Rattle.grammar.proofs.RulePlaces as places
+use Rattle.grammar.proofs.RulePlaces.{placeOf}
+use Rattle.grammar.proofs.WalkInOrder.{walkBefore, walk-hands-rule, walk-ends}
+use Rattle.grammar.proofs.WalkSteps.{step-past-256, step-cut, step-rule}
+
+module _ (ws : List ℕ) (at : ℕ) where
+  -- no whole rule stands there
+  pub right-cut : length ws < at + 2 + countAt ws at → rightAt ws at ≡ []
+  right-cut h = rw (lt-leb (at + 2 + countAt ws at) (length ws) h)
+
+  pub right-whole : at + 2 + countAt ws at ≤ length ws → rightAt ws at ≡ take (countAt ws at) (drop (at + 2) ws)
+  right-whole h = rw (le-leb (at + 2 + countAt ws at) (length ws) h)
+
+-- what a step that hands out a rule says of the walk before it and the walk after it
+pub record Handed (v u : Walk) : Type 0 where
+  pub room : v .number < 256
+  pub next : u .number ≡ v .number + 1
+
+module _ (ws : List ℕ) (v : Walk) where
+  pub handed : {s : RuleSpan} {u : Walk} → stepAt ws v ≡ Rule s u → Handed v u
+  handed {s} {u} e = go (decLt (v .number) 256) (decLt (length ws) (v .at + 2 + countAt ws (v .at)))
+    where
+      go : Dec (v .number < 256) → Dec (length ws < v .at + 2 + countAt ws (v .at)) → Handed v u
+      go (yes h) (yes l) = absurd (let z : _≡_ {A = ℕ} 0 1 = cc (step-cut ws v h l) in omega arith)
+      go (yes h) (no l) =
+          let same : Rule s u ≡ ruleStep ws v = sym e ∙ step-rule ws v h (omega arith) in
+          let q : u ≡ record { at = v .at + 2 + countAt ws (v .at); number = v .number + 1 } = cc in
+          record { room = h; next = ap (λ (x : Walk). x .number) q }
+      go (no h) l = absurd (let z : _≡_ {A = ℕ} 0 1 = cc (step-past-256 ws v (omega arith)) in omega arith)
+
+  pub starts-handed : (room : ℕ) {s : RuleSpan} {u : Walk} → stepAt ws v ≡ Rule s u →
+      startsFrom (suc room) ws v ≡ v .at ∷ startsFrom room ws u
+  unfolding startsFrom
+  starts-handed room e = ap (λ (t : Step). startsBy t (v .at) (λ u. startsFrom room ws u)) e
+
+  pub starts-ended : (room : ℕ) → stepAt ws v ≡ End → startsFrom room ws v ≡ []
+  unfolding startsFrom
+  starts-ended zero e = refl
+  starts-ended (suc room) e = ap (λ (t : Step). startsBy t (v .at) (λ u. startsFrom room ws u)) e
+
+-- these are the places of the rules of g from number k on
+record PlacesFrom (g : Grammar) (k : ℕ) (starts : List ℕ) : Type 0 where
+  number : length starts ≡ R g - k
+  each : (i : ℕ) → k + i < R g → getD starts i 0 ≡ placeOf g (k + i)
+
+no-places : (g : Grammar) (k : ℕ) → k ≡ R g → PlacesFrom g k []
+no-places g k e = record { number = omega arith; each = λ i h. absurd (omega arith) }
+
+one-place : (g : Grammar) (k : ℕ) (starts : List ℕ) → k < R g → PlacesFrom g (k + 1) starts →
+    PlacesFrom g k (placeOf g k ∷ starts)
+one-place g k starts h p = record { number = omega (arith, p .number); each = each }
+  where
+    each : (i : ℕ) → k + i < R g → getD (placeOf g k ∷ starts) i 0 ≡ placeOf g (k + i)
+    each zero l = rw (add-zero k)
+    each (suc i) l =
+        let same : k + 1 + i ≡ k + suc i = omega arith in
+        p .each i (omega arith) ∙ ap (placeOf g) same
+
+module _ (ws : List ℕ) (g : Grammar) (e : layout ws ≡ reads g) where
+  -- the walk before rule k finds the places from number k on, where it has room for them
+  places-from : (room k : ℕ) → k ≤ R g → R g ≤ k + room → PlacesFrom g k (startsFrom room ws (walkBefore g k))
+  unfolding startsFrom
+  places-from zero k l h = no-places g k (omega arith)
+  places-from (suc room) k l h = go (decLt k (R g)) (λ m. places-from room (k + 1) m (omega arith))
+    where
+      go : Dec (k < R g) → (k + 1 ≤ R g → PlacesFrom g (k + 1) (startsFrom room ws (walkBefore g (k + 1)))) →
+          PlacesFrom g k (startsFrom (suc room) ws (walkBefore g k))
+      go (yes m) later =
+          let step = walk-hands-rule ws g e (rule-at (in-bounds ws e) k m .2) in
+          rw (starts-handed ws (walkBefore g k) room step) (one-place g k _ m (later (omega arith)))
+      go (no m) later =
+          let end : k ≡ R g = omega arith in
+          let last : stepAt ws (walkBefore g k) ≡ End = rw end (walk-ends ws g e) in
+          rw (starts-ended ws (walkBefore g k) (suc room) last) (no-places g k end)
+
+  all-places : PlacesFrom g 0 (startsFrom 256 ws walkStart)
+  all-places = places-from 256 0 (omega arith) (omega (arith, in-bounds ws e .at-most-256))
+
+  -- as many indexes are found as the grammar has rules
+  pub starts-number : length (startsFrom 256 ws walkStart) ≡ R g
+  starts-number = omega (arith, all-places .number)
+
+  -- and number k of them is the place of rule k
+  pub starts-of-grammar : (k : ℕ) → k < R g → getD (startsFrom 256 ws walkStart) k 0 ≡ placeOf g k
+  starts-of-grammar k h = all-places .each k (omega arith) ∙ ap (placeOf g) (zero-add k)
+
+  -- so they stand in a buffer after find, whatever it held before
+  pub found-starts : (before : List ℕ) (k : ℕ) → k < R g → getD (over (startsFrom 256 ws walkStart) before) k 0 ≡ placeOf g k
+  unfolding over
+  found-starts before k h =
+      List·getD-append (startsFrom 256 ws walkStart) _ 0 k (omega (arith, starts-number)) ∙ starts-of-grammar k h
+
+  pub left-of-rule : {k A : ℕ} {w : List ℕ} → RuleAt g k A w → getD ws (placeOf g k) 0 ≡ A
+  left-of-rule {k} {A} {w} r = places.left-stands ws g e k A w (r .stands)
+
+  pub right-of-rule : {k A : ℕ} {w : List ℕ} → RuleAt g k A w → rightAt ws (placeOf g k) ≡ w
+  right-of-rule {k} {A} {w} r =
+      let at = placeOf g k in
+      let counted = places.count-stands ws g e k A w (r .stands) in
+      let within : at + 2 + countAt ws at ≤ length ws = rw counted (places.rule-within ws g e k A w (r .stands)) in
+      right-whole ws at within ∙ rw counted (places.symbols-stand ws g e k A w (r .stands))
+
+-- any two outcomes that a promise allows coincide
+pub find-settles : (ws before : List ℕ) {r s : List ℕ} →
+    r ≡ over (startsFrom 256 ws walkStart) before → s ≡ over (startsFrom 256 ws walkStart) before → r ≡ s
+find-settles ws before p q = p ∙ sym q
+
+pub right-settles : (ws : List ℕ) (at : ℕ) {r s : List ℕ} → r ≡ rightAt ws at → s ≡ rightAt ws at → r ≡ s
+right-settles ws at p q = p ∙ sym q

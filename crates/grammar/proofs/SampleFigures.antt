@@ -1,0 +1,79 @@
+-- Document 01's sample tables and replays, of the definitions: each table by the test of figures, each replay by computing it.
+-- Assumes nothing.
+use Prim.Native.Nat.{ℕ, _+_, _*_, _≤_, _<_}
+use native.Mathlib.Omega.{arith}
+use mathlib.Core.Path.{_≡_, refl}
+use mathlib.Core.List.{List, [], _∷_}
+use lib.ListN.{getD}
+use Rattle.grammar.specs.Words.{Grammar, Rule, _⟶_, layout, lefts, reads}
+use Rattle.grammar.specs.Derivation.{StopsAt}
+use Rattle.grammar.specs.Measure.{plain}
+use Rattle.grammar.specs.Least.{Least, Chosen}
+use Rattle.grammar.proofs.LayoutExact.{in-bounds}
+use Rattle.grammar.proofs.Replay.{replay, replayed, stepped, complete?, replay-stops}
+use Rattle.grammar.proofs.Certificate.{symbolSize, wordSize}
+use Rattle.grammar.proofs.ContextCertificate.{othersSize}
+use Rattle.grammar.proofs.FigureCertificate.{Figures, AreFigures}
+use Rattle.grammar.proofs.FigureTest.{figures}
+use Rattle.grammar.proofs.ASampleOfWords.{D, D-words, D-reads}
+use Rattle.grammar.proofs.ASampleOfDerivations.{empty-rule}
+
+-- "for each nonterminal five words (least, chosen rule, context, context rule, place counted from 0), then one total per rule"
+abbrev pub tabled : ℕ → List ℕ → Figures
+tabled N ws = record {
+  least = λ A. getD ws (5 * A) 0;
+  chosen = λ A. getD ws (5 * A + 1) 0;
+  context = λ A. getD ws (5 * A + 2) 0;
+  rule = λ A. getD ws (5 * A + 3) 0;
+  place = λ A. getD ws (5 * A + 4) 0;
+  total = λ r. getD ws (5 * N + r) 0;
+}
+
+-- "tables of D: 3 0 0 65535 65535, 2 3 1 0 0, 1 4 3 2 0, then 3 7 4 3 4 5"
+abbrev pub D-table : List ℕ
+D-table = 3 ∷ 0 ∷ 0 ∷ 65535 ∷ 65535 ∷ 2 ∷ 3 ∷ 1 ∷ 0 ∷ 0 ∷ 1 ∷ 4 ∷ 3 ∷ 2 ∷ 0 ∷ 3 ∷ 7 ∷ 4 ∷ 3 ∷ 4 ∷ 5 ∷ []
+
+pub D-figures : AreFigures D (tabled 3 D-table)
+unfolding wordSize symbolSize othersSize
+D-figures = figures D (tabled 3 D-table) refl (in-bounds D-words D-reads)
+
+-- "words 1 0 0 0 0: table 1 0 0 65535 65535 1"
+empty-reads : layout (1 ∷ 0 ∷ 0 ∷ 0 ∷ 0 ∷ []) ≡ reads empty-rule
+unfolding layout lefts
+empty-reads = refl
+
+pub empty-figures : AreFigures empty-rule (tabled 1 (1 ∷ 0 ∷ 0 ∷ 65535 ∷ 65535 ∷ 1 ∷ []))
+unfolding wordSize symbolSize othersSize
+empty-figures = figures empty-rule (tabled 1 (1 ∷ 0 ∷ 0 ∷ 65535 ∷ 65535 ∷ 1 ∷ [])) refl (in-bounds _ empty-reads)
+
+-- "words 1 1 0 0 1 0 0 1 1: table 2 1 0 65535 65535 3 2"
+-- "Choosing the lowest rule by tokens alone: S gives S, S gives a, then opens S for ever."
+abbrev pub loop : Grammar
+loop = record { N = 1; T = 1; start = 0; rules = (0 ⟶ 0 ∷ []) ∷ (0 ⟶ 1 ∷ []) ∷ [] }
+
+loop-reads : layout (1 ∷ 1 ∷ 0 ∷ 0 ∷ 1 ∷ 0 ∷ 0 ∷ 1 ∷ 1 ∷ []) ≡ reads loop
+unfolding layout lefts
+loop-reads = refl
+
+pub loop-figures : AreFigures loop (tabled 1 (2 ∷ 1 ∷ 0 ∷ 65535 ∷ 65535 ∷ 3 ∷ 2 ∷ []))
+unfolding wordSize symbolSize othersSize
+loop-figures = figures loop (tabled 1 (2 ∷ 1 ∷ 0 ∷ 65535 ∷ 65535 ∷ 3 ∷ 2 ∷ [])) refl (in-bounds _ loop-reads)
+
+pub loop-least : Least plain loop 0 2
+loop-least = loop-figures .leasts 0 (omega arith)
+
+pub loop-chosen : Chosen plain loop 0 1
+loop-chosen = loop-figures .chosens 0 (omega arith)
+
+-- "replay 0 2 over D: 11 at 2", "replay 0 3 3 over D: 11 at 2", "replay of the empty list over D: 11 at 0"
+pub ends-open : StopsAt D (0 ∷ 2 ∷ []) 2
+unfolding replay replayed stepped complete?
+ends-open = replay-stops D (0 ∷ 2 ∷ []) 2 .0 refl
+
+pub goes-past : StopsAt D (0 ∷ 3 ∷ 3 ∷ []) 2
+unfolding replay replayed stepped complete?
+goes-past = replay-stops D (0 ∷ 3 ∷ 3 ∷ []) 2 .0 refl
+
+pub never-begins : StopsAt D [] 0
+unfolding replay replayed stepped complete?
+never-begins = replay-stops D [] 0 .0 refl

@@ -1,0 +1,135 @@
+-- The walk hands out a grammar's rules in order, and then ends: before rule k it stands at that rule's place, where it reads the
+-- left side and the count, and past the last rule the words end. Assumes nothing.
+use mathlib.Core.Path.{_≡_, refl, ap, sym, _∙_}
+use mathlib.Core.List.{List, [], _∷_}
+use mathlib.Core.Option.{some}
+use Prim.Native.Nat.{ℕ, zero, suc, _+_, _≤_, _<_}
+use native.Mathlib.Omega.{arith}
+use native.Mathlib.Numerals.{add-one}
+use native.Mathlib.Decide.{decLt}
+use lib.ListN.{length, getD, getElem?, take, drop, length-drop}
+use Rattle.grammar.specs.Words.{Grammar, Rule, _⟶_, R, RuleAt, reads, layout}
+use Rattle.grammar.specs.Walk.{walkStart, countAt, stepAt}
+use Rattle.grammar.specs.declared.walk.RuleSpan.{RuleSpan}
+use Rattle.grammar.specs.declared.walk.Walk.{Walk}
+use Rattle.grammar.specs.declared.walk.Step.the-variants as step
+use Rattle.grammar.proofs.LayoutExact.{in-bounds, rule-below, rule-at}
+use Rattle.grammar.proofs.RulePlaces as places
+use Rattle.grammar.proofs.RulePlaces.{placeOf}
+use Rattle.grammar.proofs.WalkSteps.{step-past-256, step-cut, step-rule}
+
+-- the walk before rule k
+abbrev pub walkBefore : Grammar → ℕ → Walk
+walkBefore g k = record { at = placeOf g k; number = k }
+
+-- the span of rule k, A ⟶ w
+abbrev pub spanOf : Grammar → ℕ → ℕ → List ℕ → RuleSpan
+spanOf g k A w = record { number = k; left = A; count = length w; first = placeOf g k + 2 }
+
+-- the span says of the rule of number k, A ⟶ w, what stands in the words: its symbols are the words from `first` on
+pub record SpanOf (ws : List ℕ) (k A : ℕ) (w : List ℕ) (s : RuleSpan) : Type 0 where
+  pub number : s .number ≡ k
+  pub left : s .left ≡ A
+  pub count : s .count ≡ length w
+  pub symbols : take (s .count) (drop (s .first) ws) ≡ w
+  pub each : (i : ℕ) → i < length w → getD ws (s .first + i) 0 ≡ getD w i 0
+
+-- the walk v hands out these rules one after the other, numbered from k, and then ends
+pub data HandsOut (ws : List ℕ) : ℕ → Walk → List Rule → Type 0 where
+  ended : {k : ℕ} {v : Walk} → stepAt ws v ≡ step.End → HandsOut ws k v []
+  handed : {k A : ℕ} {w : List ℕ} {rs : List Rule} {v u : Walk} {s : RuleSpan} → stepAt ws v ≡ step.Rule s u →
+      SpanOf ws k A w s → HandsOut ws (k + 1) u rs → HandsOut ws k v ((A ⟶ w) ∷ rs)
+
+-- what a step from the walk before rule k found is that rule
+pub record Found (g : Grammar) (k : ℕ) (s : RuleSpan) (u : Walk) : Type 0 where
+  pub A : ℕ
+  pub w : List ℕ
+  pub rule : RuleAt g k A w
+  pub span : s ≡ spanOf g k A w
+  pub next : u ≡ walkBefore g (k + 1)
+
+-- what is left from k on begins with rule k
+next-left : (rs : List Rule) (k : ℕ) (ρ : Rule) (ss : List Rule) → drop k rs ≡ ρ ∷ ss →
+    (getElem? rs k ≡ some ρ) × (drop (suc k) rs ≡ ss)
+next-left [] zero ρ ss q = absurd (let z : _≡_ {A = ℕ} 0 1 = cc in omega arith)
+next-left [] (suc k) ρ ss q = absurd (let z : _≡_ {A = ℕ} 0 1 = cc in omega arith)
+next-left (σ ∷ rs) zero ρ ss q = (cc, cc)
+next-left (σ ∷ rs) (suc k) ρ ss q = next-left rs k ρ ss q
+
+module _ (ws : List ℕ) (g : Grammar) (e : layout ws ≡ reads g) where
+  few : R g ≤ 256
+  few = in-bounds ws e .at-most-256
+
+  module _ (k A : ℕ) (w : List ℕ) (stands : getElem? (g .rules) k ≡ some (A ⟶ w)) where
+    steps : stepAt ws (walkBefore g k) ≡ step.Rule (spanOf g k A w) (walkBefore g (k + 1))
+    steps =
+        let low = rule-below (g .rules) k (A ⟶ w) stands in
+        let counted = places.count-stands ws g e k A w stands in
+        let n : k < 256 = omega (arith, few) in
+        let h : placeOf g k + 2 + countAt ws (placeOf g k) ≤ length ws = rw counted (places.rule-within ws g e k A w stands) in
+        step-rule ws (walkBefore g k) n h
+        ∙ rw (places.left-stands ws g e k A w stands, counted, places.next-place ws g e k A w stands)
+
+    spans : SpanOf ws k A w (spanOf g k A w)
+    spans = record {
+      number = refl;
+      left = refl;
+      count = refl;
+      symbols = places.symbols-stand ws g e k A w stands;
+      each = places.symbol-stands ws g e k A w stands;
+    }
+
+  -- rule k is handed out by step k, and the walk then stands before rule k + 1
+  pub walk-hands-rule : {k A : ℕ} {w : List ℕ} → RuleAt g k A w →
+      stepAt ws (walkBefore g k) ≡ step.Rule (spanOf g k A w) (walkBefore g (k + 1))
+  walk-hands-rule {k} {A} {w} r = steps k A w (r .stands)
+
+  pub walk-span : {k A : ℕ} {w : List ℕ} → RuleAt g k A w → SpanOf ws k A w (spanOf g k A w)
+  walk-span {k} {A} {w} r = spans k A w (r .stands)
+
+  -- after R rules the walk ends
+  pub walk-ends : stepAt ws (walkBefore g (R g)) ≡ step.End
+  walk-ends = go (decLt (R g) 256)
+    where
+      go : Dec (R g < 256) → stepAt ws (walkBefore g (R g)) ≡ step.End
+      go (yes h) = step-cut ws (walkBefore g (R g)) h (omega (arith, places.places-end ws g e))
+      go (no h) = step-past-256 ws (walkBefore g (R g)) (omega arith)
+
+  -- for one who goes by the step: what it found is rule k, and where it found none k is R
+  pub walk-found : (k : ℕ) {s : RuleSpan} {u : Walk} → k ≤ R g → stepAt ws (walkBefore g k) ≡ step.Rule s u → Found g k s u
+  walk-found k {s} {u} l q = go (decLt k (R g))
+    where
+      go : Dec (k < R g) → Found g k s u
+      go (yes h) =
+          let r = rule-at (in-bounds ws e) k h in
+          let f = sym q ∙ walk-hands-rule (r .2) in
+          record { A = r .0; w = r .1; rule = r .2; span = cc; next = cc }
+      go (no h) =
+          let end : k ≡ R g = omega arith in
+          let z : _≡_ {A = ℕ} 0 1 = cc walk-ends in
+          absurd (omega arith)
+
+  pub walk-done : (k : ℕ) → k ≤ R g → stepAt ws (walkBefore g k) ≡ step.End → k ≡ R g
+  walk-done k l q = go (decLt k (R g))
+    where
+      go : Dec (k < R g) → k ≡ R g
+      go (yes h) =
+          let r = rule-at (in-bounds ws e) k h in
+          let z : _≡_ {A = ℕ} 0 1 = cc (walk-hands-rule (r .2)) in
+          absurd (omega arith)
+      go (no h) = omega arith
+
+  in-order : (rs : List Rule) (k : ℕ) → k ≤ R g → drop k (g .rules) ≡ rs → HandsOut ws k (walkBefore g k) rs
+  in-order [] k l q =
+      let n : k ≡ R g = omega (arith, length-drop k (g .rules), ap length q) in
+      let last : stepAt ws (walkBefore g k) ≡ step.End = rw n walk-ends in
+      ended last
+  in-order ((A ⟶ w) ∷ rs) k l q =
+      let h = next-left (g .rules) k (A ⟶ w) rs q in
+      let low = rule-below (g .rules) k (A ⟶ w) (h .0) in
+      let later : drop (k + 1) (g .rules) ≡ rs = rw (add-one k) (h .1) in
+      handed (steps k A w (h .0)) (spans k A w (h .0)) (in-order rs (k + 1) (omega arith) later)
+
+  -- from its start the walk hands out the grammar's rules in order, and then ends
+  pub walk-in-order : HandsOut ws 0 walkStart (g .rules)
+  walk-in-order = in-order (g .rules) 0 (omega arith) refl

@@ -1,0 +1,13 @@
+-- What a reader must believe, in reading order.
+pub mod Words
+pub mod Derivation
+pub mod Tree
+pub mod Measure
+pub mod Least
+pub mod Refusals
+-- What the code answers.
+pub mod Judge
+pub mod Walk
+pub mod Rules
+-- What the judge's private functions promise each other; nobody has to believe it.
+pub mod JudgeParts
