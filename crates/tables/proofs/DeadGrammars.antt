@@ -1,0 +1,59 @@
+-- `tables` says of exactly the dead grammars that they are: of words that are a grammar it answers 5 or 6 exactly where some
+-- nonterminal stands in no complete tree of the start. One way, what has no tree, or is in no form derived from the start, stands
+-- in no tree of the start. The other way: rows 5 and 6 are decided, and a grammar that meets neither has a tree for each
+-- nonterminal. Assumes nothing.
+use Prim.Native.Nat.{ℕ}
+use mathlib.Core.Path.{_≡_, subst}
+use mathlib.Core.Logic.{_⊎_, inl, inr, _↔_}
+use mathlib.Core.List.{List}
+use Rattle.answers.specs.Refusals.{no-tree, unreached}
+use Rattle.grammar.specs.Words.{Grammar, layout, reads}
+use Rattle.grammar.specs.Refusals.{Lowest, NoTree, Unreached, AllTrees, AllReached}
+use Rattle.grammar.proofs.Dead.{dead, open-reached}
+use Rattle.grammar.proofs.Decided.{trees?, all-reached?}
+use Rattle.tables.specs.Dead.{Dead}
+use Rattle.tables.specs.Promise.{Tables, refused}
+use Rattle.tables.specs.declared.TableAnswer.{TableAnswer}
+use Rattle.tables.proofs.FirstRows.{reads-unique}
+use Rattle.tables.proofs.TablesExact.{tables-refuses}
+
+pub no-tree-dead : {g : Grammar} {A : ℕ} → NoTree g A → Dead g
+no-tree-dead {A = A} z = record { A = A; nonterminal = z .nonterminal; nowhere = λ t s. z .none (s .below) }
+
+pub unreached-dead : {g : Grammar} {A : ℕ} → Unreached g A → Dead g
+unreached-dead {A = A} z = record { A = A; nonterminal = z .nonterminal; nowhere = λ t s. z .never (open-reached (s .above)) }
+
+-- a dead grammar meets row 5, or else row 6
+pub dead-meets : {g : Grammar} → Dead g →
+    ((A : ℕ) × Lowest (NoTree g) A) ⊎ (AllTrees g × ((A : ℕ) × Lowest (Unreached g) A))
+dead-meets {g} d = five (trees? g)
+  where
+    six : (t : AllTrees g) → AllReached g ⊎ ((A : ℕ) × Lowest (Unreached g) A) → (A : ℕ) × Lowest (Unreached g) A
+    six t (inl u) = let (w, stands) = dead g .0 (t, u) (d .A) (d .nonterminal) in absurd (d .nowhere w stands)
+    six t (inr z) = z
+
+    five : AllTrees g ⊎ ((A : ℕ) × Lowest (NoTree g) A) →
+        ((A : ℕ) × Lowest (NoTree g) A) ⊎ (AllTrees g × ((A : ℕ) × Lowest (Unreached g) A))
+    five (inl t) = inr (t, six t (all-reached? g t))
+    five (inr z) = inl z
+
+-- the answer is 5, or 6
+abbrev pub SaysDead : TableAnswer → Type 0
+SaysDead a = (A : ℕ) × ((a ≡ refused (no-tree A)) ⊎ (a ≡ refused (unreached A)))
+
+module _ (words : List ℕ) {g : Grammar} (e : layout words ≡ reads g) {before after : List ℕ} {a : TableAnswer} where
+  -- DEAD
+  pub tables-dead : Tables words before a after → SaysDead a ↔ Dead g
+  tables-dead p = (to, λ d. from (dead-meets d))
+    where
+      to : SaysDead a → Dead g
+      to (A, inl five) =
+          let (h, read, low) = tables-refuses p (no-tree A) .0 five in
+          subst Dead (reads-unique words read e) (no-tree-dead (low .such))
+      to (A, inr six) =
+          let (h, read, (t, low)) = tables-refuses p (unreached A) .0 six in
+          subst Dead (reads-unique words read e) (unreached-dead (low .such))
+
+      from : ((A : ℕ) × Lowest (NoTree g) A) ⊎ (AllTrees g × ((A : ℕ) × Lowest (Unreached g) A)) → SaysDead a
+      from (inl (A, low)) = (A, inl (tables-refuses p (no-tree A) .1 (g, e, low)))
+      from (inr (t, (A, low))) = (A, inr (tables-refuses p (unreached A) .1 (g, e, (t, low))))

@@ -1,0 +1,90 @@
+-- What a rule's turn does to the leasts. It lowers at most one figure, and only to the cut of what some tree costs: one of its
+-- left side, which the rule and the trees of its symbols make. Where it lowers none it changes nothing, and the rule is quiet.
+-- Assumes nothing.
+use mathlib.Core.Path.{_≡_, refl}
+use mathlib.Core.Bool.{Bool}
+use mathlib.Core.List.{List}
+use Prim.Native.Nat.{ℕ, _+_, _≤_, _<_}
+use native.Mathlib.Omega.{arith}
+use lib.ListN.{length, getD}
+use Rattle.grammar.specs.Words.{Grammar, RuleAt}
+use Rattle.grammar.specs.Measure.{plain}
+use Rattle.grammar.specs.Rules.{rightAt}
+use Rattle.grammar.proofs.Cap.{plainCap}
+use Rattle.grammar.proofs.CappedLeasts.{OfTree}
+use Rattle.grammar.proofs.Certificate.{wordSize}
+use Rattle.grammar.proofs.AtRest.{rule-figure}
+use Rattle.tables.specs.Figures.{figure, capped, Lowered, fell, stayed, Fallen, HaveIn, turn, LeastsSound, LeastQuiet}
+use Rattle.tables.specs.View.{View}
+use Rattle.tables.specs.LeastSteps.{SizeOf, LeastStep, not-yet, tried}
+use Rattle.tables.proofs.FiguresFall.{lowered-fallen}
+use Rattle.tables.proofs.FiguresKept.{lowered-once, lowered-length, lowered-known}
+use Rattle.tables.proofs.RoundsCompose.{Turn}
+use Rattle.tables.proofs.RoundSoFar.{SoFar, one-more}
+use Rattle.tables.proofs.RulesInView.{viewed-rule, viewed-left, viewed-right, viewed-room}
+
+pub step-fallen : {A n k : ℕ} {w vs us : List ℕ} → LeastStep A w n vs us k → Fallen vs us k
+step-fallen (not-yet h) = omega arith
+step-fallen (tried x s l) = lowered-fallen l
+
+pub step-one : {A n k : ℕ} {w vs us : List ℕ} → LeastStep A w n vs us k → k ≤ 1
+step-one (not-yet h) = omega arith
+step-one (tried x s l) = lowered-once l
+
+step-length : {A n k : ℕ} {w vs us : List ℕ} → LeastStep A w n vs us k → length us ≡ length vs
+step-length (not-yet h) = refl
+step-length (tried x s l) = lowered-length l
+
+module _ (g : Grammar) {A : ℕ} {w : List ℕ} {k : ℕ} (r : RuleAt g k A w) (vs : List ℕ) (room : g .N ≤ length vs) where
+  -- the size of a rule whose symbols have figures is such a figure
+  size-of-tree : {x : ℕ} → LeastsSound g vs → SizeOf (g .N) vs w x → OfTree plain (plainCap 4096) g A (capped x)
+  size-of-tree sound s =
+      rw (s .is g refl) (rule-figure plain (plainCap 4096) g (figure vs) r (λ B m l. sound B l (s .have B m l)))
+
+  lowered-sound : {x n : ℕ} {us : List ℕ} → SizeOf (g .N) vs w x → Lowered vs A (capped x) us n →
+      LeastsSound g vs → LeastsSound g us
+  lowered-sound s d sound = lowered-known (λ B y. OfTree plain (plainCap 4096) g B y) (g .N) d (size-of-tree sound s) sound
+
+  lowered-still : {x n : ℕ} {us : List ℕ} → SizeOf (g .N) vs w x → Lowered vs A (capped x) us n → n ≡ 0 →
+      (us ≡ vs) × (figure vs A ≤ capped (1 + wordSize plain g (figure vs) w))
+  lowered-still s (fell h l) e = absurd (omega arith)
+  lowered-still s (stayed h) e = (refl, rw (s .is g refl) at (h (omega (arith, r .left))))
+
+  step-keeps : {n : ℕ} {us : List ℕ} → LeastStep A w (g .N) vs us n → LeastsSound g vs → LeastsSound g us
+  step-keeps (not-yet h) sound = sound
+  step-keeps (tried x s l) sound = lowered-sound s l sound
+
+  step-still : {n : ℕ} {us : List ℕ} → LeastStep A w (g .N) vs us n → n ≡ 0 →
+      (us ≡ vs) × (HaveIn (g .N) vs w → figure vs A ≤ capped (1 + wordSize plain g (figure vs) w))
+  step-still (not-yet h) e = (refl, λ have. absurd (h have))
+  step-still (tried x s l) e = let (q, z) = lowered-still s l e in (q, λ have. z)
+
+-- A TURN, as the functions read the rule
+module _ {ws starts : List ℕ} {n rules : ℕ} {g : Grammar} (view : View ws starts n rules g) where
+  pub least-turn : {k m : ℕ} {vs us : List ℕ} → k < rules → 128 ≤ length vs →
+      LeastStep (getD ws (getD starts k 0) 0) (rightAt ws (getD starts k 0)) n vs us m →
+      Turn (LeastsSound g) (LeastQuiet g) k vs us m
+  least-turn {k} {m} {vs} {us} h long step = record { keeps = keeps (viewed-rule view k h); still = still (viewed-rule view k h) }
+    where
+      step-of : {A : ℕ} {w : List ℕ} → RuleAt g k A w → LeastStep A w (g .N) vs us m
+      step-of r = rw (viewed-left view r, viewed-right view r, view .nonterminals) at step
+
+      keeps : (A : ℕ) × (w : List ℕ) × RuleAt g k A w → LeastsSound g vs → LeastsSound g us
+      keeps (A, w, r) = step-keeps g r vs (viewed-room view long) (step-of r)
+
+      still : (A : ℕ) × (w : List ℕ) × RuleAt g k A w → m ≡ 0 → (us ≡ vs) × LeastQuiet g vs k
+      still (A, w, r) e =
+          let room = viewed-room view long in
+          (step-still g r vs room (step-of r) e .0, λ B u q. step-still g q vs room (step-of q) e .1)
+
+-- A ROUND, after its first i turns: from the figures vs to us
+module _ (ws starts : List ℕ) (n rules : ℕ) where
+  abbrev pub LeastsSoFar : Bool → ℕ → List ℕ → List ℕ → ℕ → Type 0
+  LeastsSoFar up i vs us m = SoFar (View ws starts n rules) LeastsSound LeastQuiet up rules i vs us m
+
+  pub least-more : {up : Bool} {i m l A k : ℕ} {w vs us xs : List ℕ} → 128 ≤ length vs → i < rules →
+      LeastsSoFar up i vs us m → (k ≡ turn up rules i) × (k < rules) → A ≡ getD ws (getD starts k 0) 0 →
+      w ≡ rightAt ws (getD starts k 0) → LeastStep A w n us xs l → LeastsSoFar up (i + 1) vs xs (m + l)
+  least-more long h so-far (in-turn, below) e e′ step =
+      one-more (View ws starts n rules) LeastsSound LeastQuiet h so-far in-turn (step-length step) (omega (arith, step-one step))
+      (step-fallen step) (λ g view. least-turn view below (omega (arith, so-far .same-length)) (rw (e, e′) at step))

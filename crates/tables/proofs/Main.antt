@@ -1,0 +1,144 @@
+-- The final statements of this crate, each by one citation: what a table is, and what the promises of `tables` and `test` come
+-- to. A reader who believes specs/ and reads this page is done. Assumes nothing.
+use Prim.Native.Nat.{ℕ, _+_, _≤_, _<_}
+use mathlib.Core.Path.{_≡_}
+use mathlib.Core.Bool.{So}
+use mathlib.Core.Logic.{_↔_}
+use mathlib.Core.List.{List, [], _∷_}
+use lib.ListN.{getD}
+use Rattle.answers.specs.Refusals.{Refusal, broken-layout}
+use Rattle.grammar.specs.Words.{Grammar, R, layout, reads, faults, InBounds, FaultAt}
+use Rattle.grammar.specs.Measure.{plain}
+use Rattle.grammar.specs.Refusals.{AllTrees, AllReached, AllFit}
+use Rattle.grammar.proofs.Certificate.{Leasts}
+use Rattle.grammar.proofs.ContextCertificate.{Contexts}
+use Rattle.grammar.proofs.ASampleOfWords.{D}
+use Rattle.grammar.proofs.ASampleOfDerivations.{empty-rule}
+use Rattle.grammar.proofs.SampleFigures.{D-table, loop}
+use Rattle.tables.specs.Table.{IsTable, totalEntry, entry}
+use Rattle.tables.specs.Dead.{Dead}
+use Rattle.tables.specs.Promise.{Tables, Tested, refused}
+use Rattle.tables.specs.declared.TableAnswer.{TableAnswer}
+use Rattle.tables.specs.declared.TableAnswer.the-variants.{Done}
+use Rattle.tables.specs.declared.TableTest.{TableTest}
+use Rattle.tables.specs.declared.TableTest.the-variants.{Its, NotIts, Broken}
+use Rattle.tables.proofs.ASampleOfTables as ASampleOfTables
+use Rattle.tables.proofs.TableSamples as TableSamples
+use Rattle.tables.proofs.TableIsOne as TableIsOne
+use Rattle.tables.proofs.TableExists as TableExists
+use Rattle.tables.proofs.TableFits as TableFits
+use Rattle.tables.proofs.TableTests as TableTests
+use Rattle.tables.proofs.TableTests.{Passes}
+use Rattle.tables.proofs.TableComputed as TableComputed
+use Rattle.tables.proofs.TableComputed.{passes?}
+use Rattle.tables.proofs.TableWorkedOut as TableWorkedOut
+use Rattle.tables.proofs.TableWorkedOut.{WorkedOut}
+use Rattle.tables.proofs.FirstRows.{Are}
+use Rattle.tables.proofs.TablesSettles as TablesSettles
+use Rattle.tables.proofs.TablesExact as TablesExact
+use Rattle.tables.proofs.TablesExact.{Given, GivenDone, Written}
+use Rattle.tables.proofs.DeadGrammars as DeadGrammars
+use Rattle.tables.proofs.DeadGrammars.{SaysDead}
+use Rattle.tables.proofs.TestSettles as TestSettles
+use Rattle.tables.proofs.TestSettles.{Own}
+
+-- THE TABLE. A grammar has one at most, and one where all nonterminals have trees and are reached.
+pub table-unique : {g : Grammar} {ws vs : List ℕ} → IsTable g ws → IsTable g vs → ws ≡ vs
+table-unique = TableIsOne.table-unique
+
+pub table-exists : (g : Grammar) → InBounds g → AllTrees g → AllReached g → (ws : List ℕ) × IsTable g ws
+table-exists = TableExists.table-exists
+
+-- Words are the table exactly where they pass the tests of `Passes`, which speak of the words and the rules alone. What passes
+-- when computed passes.
+pub table-tests : (g : Grammar) → InBounds g → (ws : List ℕ) → Passes g ws ↔ IsTable g ws
+table-tests = TableTests.table-tests
+
+pub passes?-sound : (g : Grammar) (ws : List ℕ) → So (passes? g ws) → Passes g ws
+passes?-sound = TableComputed.passes?-sound
+
+-- Words worked out from leasts and contexts, each choice the first that comes to its figure, are the table.
+pub worked-out : (g : Grammar) (v u : ℕ → ℕ) → InBounds g → Leasts plain g v → Contexts plain g v u →
+    {ws : List ℕ} → WorkedOut g v u ws → IsTable g ws
+worked-out = TableWorkedOut.worked-out
+
+-- If no Total is above 4,096, its words are 16-bit words; a least and a context of one nonterminal are together 4,096 at most.
+pub table-words-fit : {g : Grammar} {ws : List ℕ} → InBounds g → AllFit g → IsTable g ws → (i : ℕ) → getD ws i 0 < 65536
+table-words-fit = TableFits.table-words-fit
+
+pub sizes-fit : {g : Grammar} {ws : List ℕ} → InBounds g → AllFit g → IsTable g ws →
+    (A : ℕ) → A < g .N → entry ws A 0 + entry ws A 2 ≤ 4096
+sizes-fit = TableFits.sizes-fit
+
+pub total-fits : {g : Grammar} {ws : List ℕ} → InBounds g → AllFit g → IsTable g ws →
+    (r : ℕ) → r < R g → totalEntry g ws r ≤ 4096
+total-fits = TableFits.total-fits
+
+-- TABLES. Its promise allows exactly one outcome, answer and buffer, for each words and each buffer before.
+pub tables-settles : (words before : List ℕ) {a a′ : TableAnswer} {after after′ : List ℕ} →
+    Tables words before a after → Tables words before a′ after′ → (a ≡ a′) × (after ≡ after′)
+tables-settles = TablesSettles.tables-settles
+
+pub tables-met : (words before : List ℕ) → (a : TableAnswer) × (after : List ℕ) × Tables words before a after
+tables-met = TablesSettles.tables-met
+
+-- Each answer is given exactly when document 01 says so; `Given` says it of each refusal.
+pub tables-refuses : {words before after : List ℕ} {a : TableAnswer} → Tables words before a after →
+    (r : Refusal) → (a ≡ refused r) ↔ Given words before r
+tables-refuses = TablesExact.tables-refuses
+
+pub tables-first-offence : {words before after : List ℕ} {a : TableAnswer} → Tables words before a after →
+    (p : ℕ) → (a ≡ refused (broken-layout p)) ↔ FaultAt words p
+tables-first-offence = TablesExact.tables-first-offence
+
+pub tables-done : {words before after : List ℕ} {a : TableAnswer} → Tables words before a after →
+    (n : ℕ) → (a ≡ Done n) ↔ GivenDone words before n
+tables-done = TablesExact.tables-done
+
+-- At a refusal the buffer keeps its content; at Done the table stands in front, and the rest keeps its content.
+pub tables-keeps : {words before after : List ℕ} {a : TableAnswer} → Tables words before a after →
+    (r : Refusal) → a ≡ refused r → after ≡ before
+tables-keeps = TablesExact.tables-keeps
+
+pub tables-writes : {words before after : List ℕ} {a : TableAnswer} → Tables words before a after →
+    (n : ℕ) → a ≡ Done n → Are words (Written before after)
+tables-writes = TablesExact.tables-writes
+
+-- DEAD. Of words that are a grammar it answers 5 or 6 exactly where some nonterminal stands in no complete tree of the start.
+pub tables-dead : (words : List ℕ) {g : Grammar} → layout words ≡ reads g → {before after : List ℕ} {a : TableAnswer} →
+    Tables words before a after → SaysDead a ↔ Dead g
+tables-dead = DeadGrammars.tables-dead
+
+-- TEST. Its promise allows exactly one answer for each words and each table.
+pub test-settles : (words table : List ℕ) {a a′ : TableTest} → Tested words table a → Tested words table a′ → a ≡ a′
+test-settles = TestSettles.test-settles
+
+pub test-met : (words table : List ℕ) → (a : TableTest) × Tested words table a
+test-met = TestSettles.test-met
+
+-- Each answer is given exactly when: `Own` says that the grammar is accepted and the table is its own.
+pub test-broken : (words table : List ℕ) {a : TableTest} → Tested words table a →
+    (p : ℕ) → (a ≡ Broken p) ↔ (layout words ≡ faults p)
+test-broken = TestSettles.test-broken
+
+pub test-its : (words table : List ℕ) {a : TableTest} → Tested words table a → (a ≡ Its) ↔ Are words (Own table)
+test-its = TestSettles.test-its
+
+pub test-not-its : (words table : List ℕ) {a : TableTest} → Tested words table a →
+    (a ≡ NotIts) ↔ Are words (λ g. ¬ Own table g)
+test-not-its = TestSettles.test-not-its
+
+-- What `tables` wrote, `test` takes.
+pub tables-tested : {words before after : List ℕ} {a : TableAnswer} → Tables words before a after →
+    (n : ℕ) → a ≡ Done n → Tested words after Its
+tables-tested = TablesExact.tables-tested
+
+-- SAMPLES. The tables that document 01 prints.
+pub D-has-table : IsTable D D-table
+D-has-table = ASampleOfTables.D-has-table
+
+pub empty-has-table : IsTable empty-rule (1 ∷ 0 ∷ 0 ∷ 65535 ∷ 65535 ∷ 1 ∷ [])
+empty-has-table = TableSamples.empty-has-table
+
+pub loop-has-table : IsTable loop (2 ∷ 1 ∷ 0 ∷ 65535 ∷ 65535 ∷ 3 ∷ 2 ∷ [])
+loop-has-table = TableSamples.loop-has-table

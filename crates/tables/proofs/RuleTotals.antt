@@ -1,0 +1,21 @@
+-- The totals of the rules of a grammar, as the functions read them. Assumes nothing.
+use mathlib.Core.Path.{_≡_, ap, _∙_}
+use mathlib.Core.List.{List}
+use Prim.Native.Nat.{ℕ, _+_, _<_}
+use native.Mathlib.Omega.{arith}
+use lib.ListN.{getD}
+use Rattle.grammar.specs.Words.{Grammar}
+use Rattle.grammar.proofs.RuleNumbers.{rule-number}
+use Rattle.tables.specs.Figures.{figure, capped, TotalsOf}
+use Rattle.tables.specs.View.{View}
+use Rattle.tables.proofs.RulesInView.{viewed-left}
+
+-- the total of rule k, whatever the words
+abbrev pub totalAt : (ws starts sizes us : List ℕ) → ℕ → ℕ
+totalAt ws starts sizes us k = capped (figure us (getD ws (getD starts k 0) 0) + getD sizes k 0)
+
+pub totals-of : {ws starts : List ℕ} {n rules : ℕ} {g : Grammar} → View ws starts n rules g → (sizes us totals : List ℕ) →
+    ((k : ℕ) → k < rules → getD totals k 0 ≡ totalAt ws starts sizes us k) → TotalsOf g us sizes totals
+totals-of view sizes us totals read k A w rule =
+    read k (omega (arith, view .all-rules, rule-number rule)) ∙
+    ap (λ (B : ℕ). capped (figure us B + getD sizes k 0)) (viewed-left view rule)

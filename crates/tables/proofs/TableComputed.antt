@@ -1,0 +1,34 @@
+-- The tests of a table, computed: words that pass are the grammar's table. So a sample table is checked by computing it.
+-- Assumes nothing.
+use Prim.Native.Nat.{ℕ}
+use mathlib.Core.Bool.{Bool, _&&_, So, and-eq-true-iff}
+use mathlib.Core.List.{List}
+use lib.Dec.{eqb}
+use lib.ListN.{length}
+use borrow.Author.Tests.{eqb-true}
+use Rattle.grammar.specs.Words.{Grammar, InBounds}
+use Rattle.grammar.proofs.FigureTest.{figures?, figures-certified}
+use Rattle.tables.specs.Table.{IsTable, tableLength, entry}
+use Rattle.tables.proofs.TablePlaces.{figuresOf}
+use Rattle.tables.proofs.TableTests.{Passes, table-tests}
+
+abbrev pub start-words? : Grammar → List ℕ → Bool
+start-words? g ws = eqb (entry ws (g .start) 3) 65535 && eqb (entry ws (g .start) 4) 65535
+
+abbrev pub passes? : Grammar → List ℕ → Bool
+passes? g ws = eqb (length ws) (tableLength g) && (start-words? g ws && figures? g (figuresOf g ws))
+
+pub passes?-sound : (g : Grammar) (ws : List ℕ) → So (passes? g ws) → Passes g ws
+passes?-sound g ws t =
+    let (long, others) = and-eq-true-iff (eqb (length ws) (tableLength g)) _ .0 t in
+    let (starts, figures) = and-eq-true-iff (start-words? g ws) _ .0 others in
+    let (rule, place) = and-eq-true-iff (eqb (entry ws (g .start) 3) 65535) _ .0 starts in
+    record {
+      long = eqb-true (length ws) (tableLength g) long;
+      figures = figures-certified g (figuresOf g ws) figures;
+      start-rule = eqb-true (entry ws (g .start) 3) 65535 rule;
+      start-place = eqb-true (entry ws (g .start) 4) 65535 place;
+    }
+
+pub computed-table : {g : Grammar} → InBounds g → (ws : List ℕ) → So (passes? g ws) → IsTable g ws
+computed-table {g} ok ws t = table-tests g ok ws .0 (passes?-sound g ws t)

@@ -1,0 +1,30 @@
+-- The places of a table: the five words of A stand at 5A to 5A + 4, the total of r at 5N + r, and there is no other place. So
+-- what holds at these holds at each of the 5N + R; and words give figures, by these places. Assumes nothing.
+use Prim.Native.Nat.{ℕ, _+_, _*_, _-_, _/_, _%_, _<_}
+use native.Mathlib.Omega.{arith}
+use native.Mathlib.Decide.{decLt}
+use mathlib.Core.Path.{_≡_}
+use mathlib.Core.List.{List}
+use Rattle.grammar.specs.Words.{Grammar, R}
+use Rattle.grammar.proofs.FigureCertificate.{Figures}
+use Rattle.tables.specs.Table.{tableLength, entry, totalEntry}
+
+pub at-each-place : (g : Grammar) (P : ℕ → Type 0) → ((A j : ℕ) → A < g .N → j < 5 → P (5 * A + j)) →
+    ((r : ℕ) → r < R g → P (5 * g .N + r)) → (i : ℕ) → i < tableLength g → P i
+at-each-place g P five total i l = split (decLt i (5 * g .N))
+  where
+    split : Dec (i < 5 * g .N) → P i
+    split (yes h) =
+        let e : 5 * (i / 5) + i % 5 ≡ i = omega arith in rw e at (five (i / 5) (i % 5) (omega arith) (omega arith))
+    split (no h) = let e : 5 * g .N + (i - 5 * g .N) ≡ i = omega arith in rw e at (total (i - 5 * g .N) (omega arith))
+
+-- the figures that words give to a grammar, whether or not they are its own
+abbrev pub figuresOf : Grammar → List ℕ → Figures
+figuresOf g ws = record {
+  least = λ A. entry ws A 0;
+  chosen = λ A. entry ws A 1;
+  context = λ A. entry ws A 2;
+  rule = λ A. entry ws A 3;
+  place = λ A. entry ws A 4;
+  total = totalEntry g ws;
+}

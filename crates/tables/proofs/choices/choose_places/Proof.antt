@@ -1,0 +1,103 @@
+-- `tables::choices::choose_places` meets its contract: of the places of the rules that the loop has passed the first that fit
+-- stand, whatever the grammar. The measure is the number of rules to come. Assumes nothing.
+use Prim.Native.Nat.{ℕ, _*_, _≤_, _-_}
+use mathlib.Core.Path.{_≡_, refl, sym, _∙_}
+use native.Mathlib.Omega.{arith}
+use borrow.Author.Needs.{needs}
+use lib.ListN.{length}
+use Rattle.grammar.specs.Words.{Grammar}
+use Rattle.grammar.proofs.LayoutExact.{in-bounds, rule-short}
+use Rattle.tables.specs.Figures.{Empty, PlacesOf}
+use Rattle.tables.specs.View.{View}
+use Rattle.tables.proofs.FirstsNoted.{firsts-empty, empty-room}
+use Rattle.tables.proofs.RulesInView.{viewed-rule, viewed-right, viewed-room}
+use Rattle.tables.proofs.choices.choose_places.Statement.{statement}
+use Rattle.tables.proofs.choices.choose_places.Tie as tie
+
+abbrev Inv-loop : tie.InvT-loop
+Inv-loop words starts n rules leasts contexts totals places₀ r₀ places r =
+    (r ≤ rules) × (length places ≡ length places₀) ×
+    ((g : Grammar) → View words starts n rules g → Empty places₀ → PlacesOf g leasts contexts totals places (32 * r))
+
+abbrev μ-loop : tie.MeasureT-loop
+μ-loop words starts n rules leasts contexts totals places₀ r₀ places r = rules - r
+
+loop-holds : tie.Need-loop-holds Inv-loop μ-loop
+loop-holds c =
+    let a = c .before .before .before .before .args in
+    (omega arith, refl, λ g view empty. firsts-empty _ (g .N) (a .places .now) empty (viewed-room view (omega arith)))
+
+mul-right : tie.Need-mul-right Inv-loop μ-loop
+mul-right c = search needs
+
+element-copy-out-right : tie.Need-element-copy-out-right Inv-loop μ-loop
+element-copy-out-right c = search needs
+
+right-requires : tie.Need-right-requires Inv-loop μ-loop
+right-requires c κs = search needs
+
+mul-choose-places-of : tie.Need-mul-choose-places-of Inv-loop μ-loop
+mul-choose-places-of c = search needs
+
+element-copy-out-choose-places-of : tie.Need-element-copy-out-choose-places-of Inv-loop μ-loop
+element-copy-out-choose-places-of c = search needs
+
+choose-places-of-requires : tie.Need-choose-places-of-requires Inv-loop μ-loop
+choose-places-of-requires c κs =
+    let right = c .before .before .right in
+    let loop = c .before .before .before .before .before .loop in
+    let start = c .before .before .before .before .before .before .before .before .before .before in
+    let (g, view) = start .pre .1 in
+    let (A, w, rule) = viewed-rule view (loop .r) (omega arith) in
+    let short = rule-short (in-bounds (start .args .words .now) (view .is)) rule in
+    (rw (right .ensures .0, viewed-right view rule) short, omega arith)
+
+add-r : tie.Need-add-r Inv-loop μ-loop
+add-r c = search needs
+
+loop-less : tie.Need-loop-less Inv-loop μ-loop
+loop-less c = search needs
+
+loop-again : tie.Need-loop-again Inv-loop μ-loop
+loop-again c =
+    let chose = c .before .before .choose-places-of in
+    let right = c .before .before .before .before .before .right in
+    let loop = c .before .before .before .before .before .before .before .before .loop in
+    let a = c .before .before .before .before .before .before .before .before .before .before .before .before .before .args in (
+      omega arith,
+      chose .kept .1 .1 .1 .1 .1 .1 .0 ∙ loop .inv .1,
+      λ g view empty.
+          let (A, w, rule) = viewed-rule view (loop .r) (omega arith) in
+          let read = right .ensures .0 ∙ viewed-right view rule in
+          let room = empty-room (a .places .now) empty in
+          chose .ensures g A (a .totals .now) (in-bounds (a .words .now) (view .is)) (view .nonterminals) (rw read rule) refl
+          (omega (arith, loop .inv .1)) (loop .inv .2 g view empty),
+    )
+
+same-length : tie.Need-same-length Inv-loop μ-loop
+same-length c = search needs
+
+returns : tie.Need-returns Inv-loop μ-loop
+returns c g view empty =
+    let a = c .before .before .before .before .before .before .args in
+    let e : c .before .loop .r ≡ a .rules = omega arith in
+    rw e at (c .before .loop .inv .2 g view empty)
+
+pub choose-places-spec : {M : Type 1} → statement M
+choose-places-spec =
+    tie.close
+    (tie.spec
+    Inv-loop
+    μ-loop
+    loop-holds
+    mul-right
+    element-copy-out-right
+    right-requires
+    mul-choose-places-of
+    element-copy-out-choose-places-of
+    choose-places-of-requires
+    add-r
+    loop-less
+    loop-again
+    same-length
+    returns)

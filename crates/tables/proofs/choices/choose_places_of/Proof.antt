@@ -1,0 +1,98 @@
+-- `tables::choices::choose_places_of` meets its contract: of the places that the loop has passed the first that fit stand,
+-- whatever the grammar. The measure is what is left of the symbols. Assumes nothing.
+use Prim.Native.Nat.{ℕ, _+_, _*_, _≤_, _-_}
+use mathlib.Core.Path.{_≡_, refl, _∙_}
+use mathlib.Core.List.{List}
+use native.Mathlib.Nat.{add-zero}
+use native.Mathlib.Omega.{arith}
+use borrow.Author.Needs.{needs}
+use lib.ListN.{length, getD}
+use Rattle.grammar.specs.Words.{Grammar, RuleAt, InBounds}
+use Rattle.tables.specs.Figures.{PlacesOf}
+use Rattle.tables.proofs.PlacesChosen.{place-chosen, places-end}
+use Rattle.tables.proofs.choices.choose_places_of.Statement.{statement}
+use Rattle.tables.proofs.choices.choose_places_of.Tie as tie
+
+abbrev Inv-loop : tie.InvT-loop
+Inv-loop symbols n r total leasts contexts places₀ i₀ places i =
+    (i ≤ length symbols) × (length places ≡ length places₀) ×
+    ((g : Grammar) (B : ℕ) (totals : List ℕ) → InBounds g → n ≡ g .N → RuleAt g r B symbols → total ≡ getD totals r 0 →
+    128 ≤ length places₀ → PlacesOf g leasts contexts totals places₀ (32 * r) →
+    PlacesOf g leasts contexts totals places (32 * r + i))
+
+abbrev μ-loop : tie.MeasureT-loop
+μ-loop symbols n r total leasts contexts places₀ i₀ places i = length symbols - i
+
+loop-holds : tie.Need-loop-holds Inv-loop μ-loop
+loop-holds c = (omega arith, refl, λ g B totals ok n-is rule t-is room before. rw add-zero before)
+
+mul-choose-place : tie.Need-mul-choose-place Inv-loop μ-loop
+mul-choose-place c = search needs
+
+shared-slice-read-choose-place : tie.Need-shared-slice-read-choose-place Inv-loop μ-loop
+shared-slice-read-choose-place c = search needs
+
+cast-choose-place : tie.Need-cast-choose-place Inv-loop μ-loop
+cast-choose-place c = omega (arith, c .shared-slice-known4 .given (c .before .before .loop .i))
+
+mul-choose-place-2 : tie.Need-mul-choose-place-2 Inv-loop μ-loop
+mul-choose-place-2 c = search needs
+
+add-choose-place : tie.Need-add-choose-place Inv-loop μ-loop
+add-choose-place c = search needs
+
+cast-choose-place-2 : tie.Need-cast-choose-place-2 Inv-loop μ-loop
+cast-choose-place-2 c = search needs
+
+choose-place-requires : tie.Need-choose-place-requires Inv-loop μ-loop
+choose-place-requires c κs = search needs
+
+add-i : tie.Need-add-i Inv-loop μ-loop
+add-i c = search needs
+
+loop-less : tie.Need-loop-less Inv-loop μ-loop
+loop-less c = search needs
+
+loop-again : tie.Need-loop-again Inv-loop μ-loop
+loop-again c =
+    let chose = c .before .before .choose-place in
+    let loop = c .before .before .before .before .before .before .loop in
+    let a = c .before .before .before .before .before .before .before .before .before .before .before .args in (
+      omega arith,
+      chose .kept .1 .1 .1 .1 .1 .1 .0 ∙ loop .inv .1,
+      λ g B totals ok n-is rule t-is room before.
+          let so-far = loop .inv .2 g B totals ok n-is rule t-is room before in
+          let noted = rw (n-is, t-is) at (chose .ensures) in
+          place-chosen g ok (a .leasts .now) (a .contexts .now) totals rule (loop .places) (loop .i) so-far _ (omega arith) refl
+          noted (omega arith) (omega (arith, loop .inv .1)),
+    )
+
+same-length : tie.Need-same-length Inv-loop μ-loop
+same-length c = search needs
+
+returns : tie.Need-returns Inv-loop μ-loop
+returns c g B totals ok n-is rule t-is room before =
+    let loop = c .before .loop in
+    let a = c .before .before .before .before .before .before .args in
+    let so-far = loop .inv .2 g B totals ok n-is rule t-is room before in
+    places-end g ok (a .leasts .now) (a .contexts .now) totals rule (loop .places) (loop .i) so-far (omega arith) (omega arith)
+
+pub choose-places-of-spec : {M : Type 1} → statement M
+choose-places-of-spec =
+    tie.close
+    (tie.spec
+    Inv-loop
+    μ-loop
+    loop-holds
+    mul-choose-place
+    shared-slice-read-choose-place
+    cast-choose-place
+    mul-choose-place-2
+    add-choose-place
+    cast-choose-place-2
+    choose-place-requires
+    add-i
+    loop-less
+    loop-again
+    same-length
+    returns)

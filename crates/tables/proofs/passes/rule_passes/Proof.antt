@@ -1,0 +1,51 @@
+-- `tables::passes::rule_passes` meets its contract: past the limit, by the places, and by the left side. Assumes nothing.
+use native.Mathlib.Omega.{arith}
+use Rattle.tables.proofs.Telling.{says-same}
+use Rattle.tables.proofs.RulesRead.{places-fail, rule-passes}
+use borrow.Author.Needs.{needs}
+use Rattle.tables.proofs.passes.rule_passes.Statement.{statement}
+use Rattle.tables.proofs.passes.rule_passes.Tie as tie
+
+returns : tie.Need-returns
+returns c = search needs
+
+right-requires : tie.Need-right-requires
+right-requires c κs = search needs
+
+size-passes-requires : tie.Need-size-passes-requires
+size-passes-requires c κs = search needs
+
+returns-2 : tie.Need-returns-2
+returns-2 c g e p =
+    let sized = c .before .size-passes in
+    let right = c .before .before .right in
+    places-fail (rw (right .ensures .0, e) at (sized .ensures .0)) (c .if2 .taken) (p .places)
+
+word-requires : tie.Need-word-requires
+word-requires c κs = search needs
+
+left-passes-requires : tie.Need-left-passes-requires
+left-passes-requires c κs =
+    let words = c .before .before .before .before .before .before in
+    let left = words .shared-slice-known .given (words .before .args .at) in
+    (omega (arith, c .word .ensures, left), c .before .before .size-passes .ensures .1)
+
+returns-3 : tie.Need-returns-3
+returns-3 c g e =
+    let sized = c .before .before .before .size-passes in
+    let right = c .before .before .before .before .right in
+    let z = rw (right .ensures .0, e) at (sized .ensures .0) in
+    says-same (c .left-passes .result) (rule-passes g (omega arith) z (c .before .before .if2 .left))
+    (rw (c .before .word .ensures) at (c .left-passes .ensures))
+
+pub rule-passes-spec : {M : Type 1} → statement M
+rule-passes-spec =
+    tie.close
+    (tie.spec
+    returns
+    right-requires
+    size-passes-requires
+    returns-2
+    word-requires
+    left-passes-requires
+    returns-3)

@@ -1,0 +1,15 @@
+-- `tables::written::context_place` meets its contract: 65535 is no number. Assumes nothing.
+use mathlib.Core.Path.{sym}
+use Prim.Native.Nat.{_%_}
+use Rattle.tables.proofs.TableEntries.{or-none, or-some}
+use Rattle.tables.proofs.written.context_place.Statement.{statement}
+use Rattle.tables.proofs.written.context_place.Tie as tie
+
+returns : tie.Need-returns
+returns c = let q = c .before .args .number in sym (or-none q (q % 32) (c .if1 .taken))
+
+returns-2 : tie.Need-returns-2
+returns-2 c = let q = c .before .args .number in sym (or-some q (q % 32) (c .if1 .left))
+
+pub context-place-spec : {M : Type 1} → statement M
+context-place-spec = tie.close (tie.spec returns returns-2)

@@ -1,0 +1,11 @@
+-- "A grammar met by 5 or 6 is what demand 3 calls dead; tables and next both say so." Said of trees alone, with no word of how
+-- it is found out: some declared nonterminal stands in no complete tree of the start. That `tables` answers 5 or 6 to exactly the
+-- dead grammars is a law (proofs/DeadGrammars). Assumes nothing.
+use Prim.Native.Nat.{ℕ, _<_}
+use Rattle.grammar.specs.Words.{Grammar}
+use Rattle.grammar.specs.Tree.{Tree, StandsIn}
+
+pub record Dead (g : Grammar) : Type 0 where
+  pub A : ℕ
+  pub nonterminal : A < g .N
+  pub nowhere : (t : Tree g (g .start)) → ¬ StandsIn g A t

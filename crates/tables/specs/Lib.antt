@@ -1,0 +1,13 @@
+-- What a reader must believe.
+pub mod Table
+pub mod Promise
+pub mod Dead
+-- What the private functions promise each other; nobody has to believe these.
+pub mod View
+pub mod Figures
+pub mod LeastSteps
+pub mod ContextSteps
+pub mod Noted
+pub mod Written
+pub mod Rows
+pub mod Tests

@@ -1,0 +1,41 @@
+-- "Tables: words to table." What `tables` promises: of words and a buffer, the answer and the buffer afterwards.
+-- One row a constructor, in document 01's order: 4, 5, 6, 7, 3. "Every row returns its number and the place shown; no buffer
+-- changes." Assumes nothing.
+use Prim.Native.Nat.{ℕ, _≤_, _<_}
+use mathlib.Core.Path.{_≡_}
+use mathlib.Core.List.{List}
+use lib.ListN.{length}
+use Rattle.answers.specs.Refusals.{Refusal, number, place, broken-layout, no-tree, unreached, oversize, too-short}
+use Rattle.answers.specs.Buffers.{over}
+use Rattle.grammar.specs.Words.{Grammar, layout, reads, faults}
+use Rattle.grammar.specs.Refusals.{Lowest, NoTree, AllTrees, Unreached, AllReached, Oversize, AllFit, Accepted}
+use Rattle.tables.specs.Table.{IsTable, HasTable, tableLength}
+use Rattle.tables.specs.declared.TableAnswer.{TableAnswer}
+use Rattle.tables.specs.declared.TableAnswer.the-variants.{Done, Refused}
+use Rattle.tables.specs.declared.TableTest.{TableTest}
+use Rattle.tables.specs.declared.TableTest.the-variants.{Its, NotIts, Broken}
+
+abbrev pub refused : Refusal → TableAnswer
+refused r = Refused (number r) (place r)
+
+pub data Tables (words before : List ℕ) : TableAnswer → List ℕ → Type 0 where
+  row-4 : {p : ℕ} → layout words ≡ faults p →
+      Tables words before (refused (broken-layout p)) before
+  row-5 : {g : Grammar} {A : ℕ} → layout words ≡ reads g → Lowest (NoTree g) A →
+      Tables words before (refused (no-tree A)) before
+  row-6 : {g : Grammar} {A : ℕ} → layout words ≡ reads g → AllTrees g → Lowest (Unreached g) A →
+      Tables words before (refused (unreached A)) before
+  row-7 : {g : Grammar} {r : ℕ} → layout words ≡ reads g → AllTrees g → AllReached g → Lowest (Oversize g) r →
+      Tables words before (refused (oversize r)) before
+  row-3 : {g : Grammar} → layout words ≡ reads g → AllTrees g → AllReached g → AllFit g → length before < tableLength g →
+      Tables words before (refused (too-short (tableLength g))) before
+  done : {g : Grammar} {table : List ℕ} → layout words ≡ reads g → AllTrees g → AllReached g → AllFit g →
+      tableLength g ≤ length before → IsTable g table →
+      Tables words before (Done (tableLength g)) (over table before)
+
+-- What `test` promises: whether the first 5N + R words of a lent table are there and are this grammar's table. The words break
+-- the layout, or they are a grammar; then 5, 6 and 7 accept it and the table is its table, or not both.
+pub data Tested (words table : List ℕ) : TableTest → Type 0 where
+  broken : {p : ℕ} → layout words ≡ faults p → Tested words table (Broken p)
+  its : {g : Grammar} → layout words ≡ reads g → Accepted g → HasTable g table → Tested words table Its
+  not-its : {g : Grammar} → layout words ≡ reads g → ¬ (Accepted g × HasTable g table) → Tested words table NotIts

@@ -1,0 +1,37 @@
+-- For the private functions: what is known where rows 4 to 6 are passed. Nobody has to believe this file; the promises do not
+-- cite it.
+-- Assumes nothing.
+use Prim.Native.Nat.{ℕ, _<_}
+use mathlib.Core.Path.{_≡_}
+use mathlib.Core.List.{List}
+use Rattle.grammar.specs.Words.{Grammar, R, layout, reads}
+use Rattle.tables.specs.Figures.{Has, LeastsDone, SizesOf, ContextsRest}
+use Rattle.tables.specs.View.{View}
+
+-- 4 is passed: the words are a grammar with these numbers
+pub record Read (ws : List ℕ) (n start rules : ℕ) : Type 0 where
+  pub grammar : Grammar
+  pub is : layout ws ≡ reads grammar
+  pub nonterminals : n ≡ grammar .N
+  pub first : start ≡ grammar .start
+  pub all-rules : rules ≡ R grammar
+
+-- and so is 5: every nonterminal has a least
+pub record Grown (ws starts : List ℕ) (n start rules : ℕ) (vs : List ℕ) : Type 0 where
+  pub grammar : Grammar
+  pub view : View ws starts n rules grammar
+  pub first : start ≡ grammar .start
+  pub leasts : LeastsDone grammar vs
+
+-- the contexts are at rest over the leasts vs, and no nonterminal is without
+pub record ContextsDone (g : Grammar) (vs us : List ℕ) : Type 0 where
+  pub rest : ContextsRest g vs us
+  pub all : (A : ℕ) → A < g .N → Has us A
+
+-- and so is 6
+pub record Placed (ws starts : List ℕ) (n rules : ℕ) (vs sizes us : List ℕ) : Type 0 where
+  pub grammar : Grammar
+  pub view : View ws starts n rules grammar
+  pub leasts : LeastsDone grammar vs
+  pub sizes-are : SizesOf grammar vs sizes
+  pub contexts : ContextsDone grammar vs us

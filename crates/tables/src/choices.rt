@@ -1,0 +1,135 @@
+// The choices, where no figure is cut: the chosen rule of each nonterminal, and its context rule and place.
+ghost use mathlib.Core.Path.{_≡_};
+ghost use Prim.Native.Nat.{ℕ, _+_, _*_, _≤_, _<_};
+ghost use lib.ListN.{length};
+ghost use Rattle.grammar.specs.Words.{Grammar};
+ghost use Rattle.tables.specs.Figures.{figure, Empty, ChosenOf, PlacesOf};
+ghost use Rattle.tables.specs.View.{View};
+ghost use Rattle.tables.specs.Noted.{Noted, NotedWhere, PlacesNoted};
+use crate::figures::NONE;
+use crate::figures::figure_at;
+use grammar::rules;
+use grammar::words::word;
+
+// Notes a number at a nonterminal that has none yet.
+fn note(numbers: &mut [u16], a: usize, number: u16)
+    ensures { λ _. ⌜ Noted (now (numbers .entry)) a number (now (numbers .exit)) ⌝ }
+{
+    if a < numbers.len() {
+        if numbers[a] == NONE {
+            numbers[a] = number;
+        }
+    }
+}
+
+// Notes rule r, which has this left side and size, as the chosen one where the size is the least.
+fn choose_rule(left: usize, size: u32, r: u16, leasts: &[u16], chosen: &mut [u16])
+    ensures { λ _. ⌜ NotedWhere (figure (now (leasts .entry)) left ≡ size) (now (chosen .entry)) left r (now (chosen .exit)) ⌝ }
+{
+    if figure_at(leasts, left) == size as usize {
+        note(chosen, left, r);
+    }
+}
+
+// The first rule of each nonterminal whose size is its least.
+pub fn choose_rules(
+    words: &[u16],
+    starts: &[usize; 256],
+    rules: usize,
+    leasts: &[u16],
+    sizes: &[u32; 256],
+    chosen: &mut [u16],
+)
+    requires { ⌜ rules ≤ 256 ⌝ }
+    ensures { λ _. ⌜ ((g : Grammar) (n : ℕ) → View (now (words .entry)) (now (starts .entry)) n rules g →
+        Empty (now (chosen .entry)) →
+        ChosenOf g (now (leasts .entry)) (now (sizes .entry)) (now (chosen .exit)) rules) ⌝ }
+{
+    let mut r = 0;
+    while r < rules {
+        choose_rule(word(words, starts[r]), sizes[r], r as u16, leasts, chosen);
+        r += 1;
+    }
+}
+
+// Notes a place, where symbol s stands in a rule of this total, as that of its context: where s is a nonterminal and the total is
+// its least and its context.
+fn choose_place(
+    s: usize,
+    n: usize,
+    place: u16,
+    total: u16,
+    leasts: &[u16],
+    contexts: &[u16],
+    places: &mut [u16],
+)
+    ensures { λ _. ⌜ NotedWhere ((s < n) × (figure (now (leasts .entry)) s + figure (now (contexts .entry)) s ≡ total))
+        (now (places .entry)) s place (now (places .exit)) ⌝ }
+{
+    if s < n {
+        if figure_at(leasts, s) + figure_at(contexts, s) == total as usize {
+            note(places, s, place);
+        }
+    }
+}
+
+// The same at each symbol of rule r; a place's number is 32 r and the place.
+fn choose_places_of(
+    symbols: &[u16],
+    n: usize,
+    r: usize,
+    total: u16,
+    leasts: &[u16],
+    contexts: &[u16],
+    places: &mut [u16],
+)
+    requires { ⌜ (length (now symbols) ≤ 32) × (r < 256) ⌝ }
+    ensures { λ _. ⌜ PlacesNoted (now (symbols .entry)) n r total
+        (now (leasts .entry)) (now (contexts .entry)) (now (places .entry)) (now (places .exit)) ⌝ }
+{
+    let mut i = 0;
+    while i < symbols.len() {
+        choose_place(
+            symbols[i] as usize,
+            n,
+            (32 * r + i) as u16,
+            total,
+            leasts,
+            contexts,
+            places,
+        );
+        i += 1;
+    }
+}
+
+// The first rule and place of each nonterminal that give its context, as one number.
+pub fn choose_places(
+    words: &[u16],
+    starts: &[usize; 256],
+    n: usize,
+    rules: usize,
+    leasts: &[u16],
+    contexts: &[u16],
+    totals: &[u16; 256],
+    places: &mut [u16],
+)
+    requires { ⌜ rules ≤ 256 ⌝ }
+    requires { ⌜ ((g : Grammar) × View (now words) (now starts) n rules g) ⌝ }
+    ensures { λ _. ⌜ ((g : Grammar) → View (now (words .entry)) (now (starts .entry)) n rules g →
+        Empty (now (places .entry)) →
+        PlacesOf g (now (leasts .entry)) (now (contexts .entry)) (now (totals .entry)) (now (places .exit)) (32 * rules)) ⌝ }
+{
+    let mut r = 0;
+    while r < rules {
+        choose_places_of(
+            rules::right(words, starts[r]),
+            n,
+            r,
+            totals[r],
+            leasts,
+            contexts,
+            places,
+        );
+        r += 1;
+    }
+}

@@ -1,0 +1,158 @@
+// The contexts, by rounds over all rules until nothing falls; and the totals by them.
+ghost use mathlib.Core.Path.{_≡_};
+ghost use Prim.Native.Nat.{ℕ, _≤_, _<_};
+ghost use lib.ListN.{length};
+ghost use Rattle.grammar.specs.Words.{Grammar};
+ghost use Rattle.tables.specs.Figures.{Fallen, Round, SizesOf, LeastsDone};
+ghost use Rattle.tables.specs.View.{View};
+ghost use Rattle.tables.specs.Figures.{ContextsSound, ContextQuiet, ContextsRest, TotalsOf};
+ghost use Rattle.tables.specs.ContextSteps.{PlaceStep, PlacesStep, ContextStep, Known};
+use crate::figures::NONE;
+use crate::figures::cap;
+use crate::figures::figure_at;
+use crate::figures::in_turn;
+use crate::figures::lower;
+use grammar::rules;
+use grammar::words::word;
+
+// A rule's size, to add to: a cast in a function of its own asks its callers for no proof.
+fn widened(size: u32) -> usize
+    ensures { λ r. ⌜ (r ≡ size) × (r < 4294967296) ⌝ }
+{
+    size as usize
+}
+
+// Lowers the context of the symbol s of a rule, where whole is the rule's size and the context of its left side: the symbol's own
+// least is taken off again. How many figures fell.
+fn lower_context(s: usize, n: usize, whole: usize, leasts: &[u16], contexts: &mut [u16]) -> usize
+    ensures { λ r. ⌜ PlaceStep n whole (now (leasts .entry)) s (now (contexts .entry)) (now (contexts .exit)) r ⌝ }
+{
+    if n <= s {
+        return 0;
+    }
+    let least = figure_at(leasts, s);
+    if whole < least {
+        return 0;
+    }
+    lower(contexts, s, cap(whole - least))
+}
+
+// The same for each symbol of a rule.
+fn lower_contexts(
+    symbols: &[u16],
+    n: usize,
+    whole: usize,
+    leasts: &[u16],
+    contexts: &mut [u16],
+) -> usize
+    requires { ⌜ length (now symbols) ≤ 65535 ⌝ }
+    ensures { λ r. ⌜ PlacesStep n whole (now (leasts .entry)) (now (symbols .entry)) (now (contexts .entry))
+        (now (contexts .exit)) r ⌝ }
+{
+    let mut fell = 0;
+    let mut i = 0;
+    while i < symbols.len() {
+        fell += lower_context(symbols[i] as usize, n, whole, leasts, contexts);
+        i += 1;
+    }
+    fell
+}
+
+// The same for a rule of a left side that has a context.
+fn context_of_rule(
+    left: usize,
+    symbols: &[u16],
+    n: usize,
+    size: u32,
+    leasts: &[u16],
+    contexts: &mut [u16],
+) -> usize
+    requires { ⌜ length (now symbols) ≤ 65535 ⌝ }
+    ensures { λ r. ⌜ ContextStep n size (now (leasts .entry)) left (now (symbols .entry)) (now (contexts .entry))
+        (now (contexts .exit)) r ⌝ }
+{
+    let context = figure_at(contexts, left);
+    if context == NONE as usize {
+        return 0;
+    }
+    lower_contexts(symbols, n, context + widened(size), leasts, contexts)
+}
+
+// A round over all rules, from the first to the last or back; how many figures fell.
+fn context_round(
+    words: &[u16],
+    starts: &[usize; 256],
+    n: usize,
+    rules: usize,
+    sizes: &[u32; 256],
+    up: bool,
+    leasts: &[u16],
+    contexts: &mut [u16],
+) -> usize
+    requires { ⌜ (rules ≤ 256) × (128 ≤ length (now contexts)) ⌝ }
+    ensures { λ r. ⌜ Fallen (now (contexts .entry)) (now (contexts .exit)) r ⌝ }
+    ensures { λ r. ⌜ ((g : Grammar) →
+        Known (now (words .entry)) (now (starts .entry)) n rules (now (sizes .entry)) (now (leasts .entry)) g →
+        Round (ContextsSound g) (ContextQuiet g (now (leasts .entry))) rules (now (contexts .entry)) (now (contexts .exit)) r) ⌝ }
+{
+    let mut fell = 0;
+    let mut i = 0;
+    while i < rules {
+        let r = in_turn(i, rules, up);
+        let at = starts[r];
+        fell += context_of_rule(
+            word(words, at),
+            rules::right(words, at),
+            n,
+            sizes[r],
+            leasts,
+            contexts,
+        );
+        i += 1;
+    }
+    fell
+}
+
+// Rounds up and down in turn until one changes nothing.
+pub fn context_rounds(
+    words: &[u16],
+    starts: &[usize; 256],
+    n: usize,
+    rules: usize,
+    sizes: &[u32; 256],
+    leasts: &[u16],
+    contexts: &mut [u16],
+)
+    requires { ⌜ (rules ≤ 256) × (128 ≤ length (now contexts)) ⌝ }
+    ensures { λ _. ⌜ ((g : Grammar) → View (now (words .entry)) (now (starts .entry)) n rules g →
+        LeastsDone g (now (leasts .entry)) → SizesOf g (now (leasts .entry)) (now (sizes .entry)) →
+        ContextsSound g (now (contexts .entry)) → ContextsRest g (now (leasts .entry)) (now (contexts .exit))) ⌝ }
+{
+    let mut fell = 1;
+    let mut up = true;
+    while 0 < fell {
+        fell = context_round(words, starts, n, rules, sizes, up, leasts, contexts);
+        up = !up;
+    }
+}
+
+// The total of each rule, cut at 4,097.
+pub fn rule_totals(
+    words: &[u16],
+    starts: &[usize; 256],
+    rules: usize,
+    sizes: &[u32; 256],
+    contexts: &[u16],
+    totals: &mut [u16],
+)
+    requires { ⌜ (rules ≤ 256) × (256 ≤ length (now totals)) ⌝ }
+    ensures { λ _. ⌜ ((g : Grammar) (n : ℕ) → View (now (words .entry)) (now (starts .entry)) n rules g →
+        TotalsOf g (now (contexts .entry)) (now (sizes .entry)) (now (totals .exit))) ⌝ }
+{
+    let mut r = 0;
+    while r < rules {
+        let left = word(words, starts[r]);
+        totals[r] = cap(figure_at(contexts, left) + widened(sizes[r]));
+        r += 1;
+    }
+}
