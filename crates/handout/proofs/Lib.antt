@@ -1,0 +1,32 @@
+-- What the promises settle.
+pub mod ReplaySettles
+pub mod ReplayExact
+pub mod MarksSettled
+pub mod NextSettles
+pub mod NextMet
+pub mod NextExact
+pub mod NextDead
+-- What the lister writes.
+pub mod Listings
+pub mod ListerSteps
+pub mod ListerWrites
+-- What the marking comes to.
+pub mod MarkLaws
+-- What the tree lister writes.
+pub mod OpenListings
+pub mod TreeListerSteps
+pub mod TreeWrites
+-- What a night comes to.
+pub mod NightProper
+pub mod NightCovers
+pub mod HandoutsReplay
+pub mod NightEnds
+-- The final statements.
+pub mod Main
+-- Why the code of `replay` keeps its promise.
+pub mod ReplayMoves
+pub mod ReplayForms
+pub mod ReplayStepped
+pub mod ReplayRun
+-- Why the code of `next` keeps its promise.
+pub mod NextOutcomes

@@ -1,0 +1,159 @@
+-- What each step of the lister needs and leaves: a token, a rule's number, one more of a rule's symbols, a nonterminal by its
+-- chosen rule. Assumes nothing.
+use Prim.Native.Nat.{ℕ, _+_, _*_, _≤_, _<_}
+use native.Mathlib.Nat.{add-zero}
+use native.Mathlib.Numerals.{add-one}
+use native.Mathlib.Omega.{arith}
+use mathlib.Core.List.{List, [], _∷_, _++_}
+use mathlib.Core.Path.{_≡_, refl, ap, sym, _∙_}
+use lib.ListN.{length, getD, set, take}
+use lib.Seq.{length-sets, take-suc, take-all}
+use Rattle.grammar.specs.Tree.{node, nil}
+use Rattle.grammar.proofs.RuleNumbers.{rule-number}
+use Rattle.tables.specs.Table.{entry}
+use Rattle.handout.specs.declared.lister.Lengths.{Lengths}
+use Rattle.handout.specs.Listing.{sizeBy, sizesBy, rightOf, SymbolReady, RuleReady, of-terminal, of-nonterminal}
+use Rattle.handout.specs.Listing.{SymbolsListed, Wrote, Listed, Written, SymbolWritten, RuleWritten}
+use Rattle.handout.proofs.Listings.{and-then, nothing, one-more, sizes-more, sizes-within, terminal-size, ChosenRule}
+use Rattle.handout.proofs.Listings.{chosen-rule}
+
+-- the parts keep their lengths
+module _ {P : List ℕ → List ℕ → Type 0} {a b x y : List ℕ} {p q : Lengths} (h : Listed P a b x y p q) where
+  pub tokens-kept : length b ≡ length a
+  tokens-kept = ap length (h .wrote .sentence) ∙ length-sets a (p .tokens) (h .us)
+
+  pub rules-kept : length y ≡ length x
+  rules-kept = ap length (h .wrote .derivation) ∙ length-sets x (p .rules) (h .vs)
+
+-- what the loop over a rule's symbols w keeps: the first i of them are listed
+pub record Turn (words starts table : List ℕ) (n : ℕ) (w tokens tokens′ rules rules′ : List ℕ) (past so : Lengths) (i : ℕ) :
+    Type 0 where
+  pub upto : i ≤ length w
+  pub done : Written words starts table n (λ g. SymbolsListed g (take i w)) (sizesBy n table (take i w))
+      tokens tokens′ rules rules′ past so
+
+abbrev pub oneRule : Lengths → Lengths
+oneRule p = record { tokens = p .tokens; rules = p .rules + 1 }
+
+abbrev pub oneToken : Lengths → Lengths
+oneToken p = record { tokens = p .tokens + 1; rules = p .rules }
+
+module _ (words starts table : List ℕ) (n : ℕ) where
+  pub turns-begin : (w a x : List ℕ) (p : Lengths) → Turn words starts table n w a a x x p p 0
+  unfolding sizesBy
+  turns-begin w a x p = record {
+    upto = omega arith;
+    done = record {
+      counted = omega arith;
+      listed = λ g k. record {
+        us = [];
+        vs = [];
+        lists = record { forest = nil; chosen = tt; tokens = refl; rules = refl };
+        wrote = nothing a x p;
+      };
+    };
+  }
+
+  pub token-listed : (s : ℕ) (a b x : List ℕ) (p : Lengths) → n ≤ s → b ≡ set a (p .tokens) s →
+      SymbolWritten words starts table n s a b x x p (oneToken p)
+  token-listed s a b x p h e = record {
+    counted = omega (arith, terminal-size n table s h);
+    listed = λ g k. record {
+      us = s ∷ [];
+      vs = [];
+      lists = let le : g .N ≤ s = omega (arith, k .view .nonterminals) in of-terminal le;
+      wrote = record { more-tokens = refl; more-rules = sym (add-zero (p .rules)); sentence = e; derivation = refl };
+    };
+  }
+
+  -- the next symbol of a rule is smaller than the rule
+  pub symbol-smaller : (k i : ℕ) (w : List ℕ) → w ≡ rightOf words starts k → i < length w →
+      2 * sizeBy n table (getD w i 0) < 2 * sizesBy n table (rightOf words starts k) + 1
+  symbol-smaller k i w is h = omega (arith, ap (sizesBy n table) is, sizes-within n table w i h)
+
+module _ {words starts table : List ℕ} {n : ℕ} where
+  -- one more symbol
+  module _ {w a b c x y z : List ℕ} {p q r : Lengths} {i : ℕ} where
+    pub turn-goes-on : Turn words starts table n w a b x y p q i → i < length w →
+        SymbolWritten words starts table n (getD w i 0) b c y z q r → Turn words starts table n w a c x z p r (i + 1)
+    turn-goes-on turn h one = record {
+      upto = omega arith;
+      done = record {
+        counted = omega (arith, turn .done .counted, one .counted, sizes-more n table w i h);
+        listed = λ g k.
+            let so = turn .done .listed g k in
+            let last = one .listed g k in
+            let both = one-more (so .lists .forest) (so .lists .chosen) (last .lists) in
+            record {
+              us = so .us ++ last .us;
+              vs = so .vs ++ last .vs;
+              lists = rw (add-one i, take-suc w i 0 h, so .lists .tokens, so .lists .rules) both;
+              wrote = and-then (so .wrote) (last .wrote);
+            };
+      };
+    }
+
+  -- the next symbol can be listed
+  pub symbol-ready : {w a b x y : List ℕ} {p q : Lengths} {k i : ℕ} → w ≡ rightOf words starts k →
+      RuleReady words starts table n k p → Turn words starts table n w a b x y (oneRule p) q i → i < length w →
+      SymbolReady words starts table n (getD w i 0) q
+  symbol-ready {w} {i = i} is ready turn h = record {
+    g = ready .g;
+    known = ready .known;
+    room = omega (arith, ready .room, ap (sizesBy n table) is, turn .done .counted, sizes-within n table w i h);
+  }
+
+  -- after the last symbol, with the rule's number before them
+  pub rule-listed : {k : ℕ} {w a b x x₁ y : List ℕ} {p q : Lengths} {i : ℕ} → w ≡ rightOf words starts k →
+      x₁ ≡ set x (p .rules) k → Turn words starts table n w a b x₁ y (oneRule p) q i → length w ≤ i →
+      RuleWritten words starts table n k a b x y p q
+  rule-listed {k} {w} {a} {b} {x} {x₁} {y} {p} {q} {i} is e turn h = record {
+    counted = omega (arith, turn .done .counted, ap (sizesBy n table) all);
+    listed = λ g known.
+        let so = turn .done .listed g known in
+        record {
+          us = so .us;
+          vs = k ∷ so .vs;
+          lists = record { after = so .vs; symbols = rw all at (so .lists); is = refl };
+          wrote = and-then {us = []} {vs = k ∷ []} number (so .wrote);
+        };
+  }
+    where
+      all : take i w ≡ rightOf words starts k
+      all = take-all i w h ∙ is
+
+      number : Wrote [] (k ∷ []) a a x x₁ p (oneRule p)
+      number = record { more-tokens = sym (add-zero (p .tokens)); more-rules = refl; sentence = refl; derivation = e }
+
+  -- a nonterminal by its chosen rule
+  module _ {s k : ℕ} {p : Lengths} (ready : SymbolReady words starts table n s p) (h : s < n) (e : k ≡ entry table s 1) where
+    chosen : ChosenRule (ready .known) s k
+    chosen = chosen-rule (ready .known) s k h e
+
+    pub rule-ready : RuleReady words starts table n k p
+    rule-ready = record {
+      g = ready .g;
+      known = ready .known;
+      number = rule-number (chosen .rule);
+      room = omega (arith, ready .room, chosen .size);
+    }
+
+    pub rule-smaller : 2 * sizesBy n table (rightOf words starts k) + 1 < 2 * sizeBy n table s
+    rule-smaller = omega (arith, chosen .size)
+
+    pub chosen-listed : {a b x y : List ℕ} {q : Lengths} → RuleWritten words starts table n k a b x y p q →
+        SymbolWritten words starts table n s a b x y p q
+    chosen-listed rule = record {
+      counted = omega (arith, rule .counted, chosen .size);
+      listed = λ g known.
+          let so = rule .listed g known in
+          let c = chosen-rule known s k h e in
+          let f = so .lists .symbols in
+          let tree = of-nonterminal (node k (c .rule) (f .forest)) (c .chosen, f .chosen) in
+          record {
+            us = so .us;
+            vs = so .vs;
+            lists = rw (so .lists .is, f .rules, f .tokens) tree;
+            wrote = so .wrote;
+          };
+    }

@@ -1,0 +1,36 @@
+-- `next` says of exactly the dead grammars that they are, as `tables` does: of words that are a grammar it answers 5 or 6 exactly
+-- where some nonterminal stands in no complete tree of the start. Assumes nothing.
+use Prim.Native.Nat.{ℕ}
+use mathlib.Core.Path.{_≡_, subst}
+use mathlib.Core.Logic.{_⊎_, inl, inr, _↔_}
+use mathlib.Core.List.{List}
+use Rattle.answers.specs.Refusals.{no-tree, unreached}
+use Rattle.grammar.specs.Words.{Grammar, layout, reads}
+use Rattle.grammar.specs.Refusals.{Lowest, NoTree, Unreached, AllTrees}
+use Rattle.tables.specs.Dead.{Dead}
+use Rattle.tables.proofs.FirstRows.{reads-unique}
+use Rattle.tables.proofs.DeadGrammars.{no-tree-dead, unreached-dead, dead-meets}
+use Rattle.handout.specs.Next.{NextPromise, refused, Lent}
+use Rattle.handout.specs.declared.NextAnswer.{NextAnswer}
+use Rattle.handout.proofs.NextExact.{next-refuses}
+
+-- the answer is 5, or 6
+abbrev pub SaysDead : NextAnswer → Type 0
+SaysDead a = (A : ℕ) × ((a ≡ refused (no-tree A)) ⊎ (a ≡ refused (unreached A)))
+
+module _ (words : List ℕ) {g : Grammar} (e : layout words ≡ reads g) {table : List ℕ} {before after : Lent} {a : NextAnswer} where
+  -- DEAD
+  pub next-dead : NextPromise words table before a after → SaysDead a ↔ Dead g
+  next-dead p = (to, λ d. from (dead-meets d))
+    where
+      to : SaysDead a → Dead g
+      to (A, inl five) =
+          let (h, read, low) = next-refuses p (no-tree A) .0 five in
+          subst Dead (reads-unique words read e) (no-tree-dead (low .such))
+      to (A, inr six) =
+          let (h, read, (t, low)) = next-refuses p (unreached A) .0 six in
+          subst Dead (reads-unique words read e) (unreached-dead (low .such))
+
+      from : ((A : ℕ) × Lowest (NoTree g) A) ⊎ (AllTrees g × ((A : ℕ) × Lowest (Unreached g) A)) → SaysDead a
+      from (inl (A, low)) = (A, inl (next-refuses p (no-tree A) .1 (g, e, low)))
+      from (inr (t, (A, low))) = (A, inr (next-refuses p (unreached A) .1 (g, e, (t, low))))

@@ -1,0 +1,172 @@
+-- Each answer of `next` is given exactly when document 01 says so, and what it says of the buffers. One way, only the row of an
+-- answer has it; the other way, its row allows it, and what is allowed is settled. Assumes nothing.
+use Prim.Native.Nat.{ℕ, _≤_, _<_}
+use mathlib.Core.Path.{_≡_, refl}
+use mathlib.Core.Logic.{_↔_}
+use mathlib.Core.List.{List}
+use lib.ListN.{length}
+use Rattle.answers.specs.Refusals.{Refusal, not-version-one, bad-length, too-many-words, too-short, broken-layout, no-tree}
+use Rattle.answers.specs.Refusals.{unreached, oversize, not-its-table, few-marks, derivation-short, no-derivation, long-list}
+use Rattle.answers.specs.Buffers.{over}
+use Rattle.answers.proofs.WrittenFromFront.{Written, written}
+use Rattle.grammar.specs.Words.{Grammar, R, layout, faults, FaultAt}
+use Rattle.grammar.specs.Tree.{Tree, sentence, derivation}
+use Rattle.grammar.specs.Refusals.{Lowest, NoTree, AllTrees, Unreached, AllReached, Oversize, Accepted}
+use Rattle.grammar.proofs.FirstOffence.{layout-faults-exact}
+use Rattle.tables.specs.Table.{HasTable}
+use Rattle.tables.proofs.FirstRows.{Are}
+use Rattle.tables.proofs.TestSettles.{Own}
+use Rattle.handout.specs.Next.{NextPromise, refused, AllUsed, Marked, Wanted, Lent}
+use Rattle.handout.specs.Next.{row-4, row-5, row-6, row-7, row-8, row-9, finished, row-3, row-10, next}
+use Rattle.handout.specs.declared.NextAnswer.{NextAnswer}
+use Rattle.handout.specs.declared.NextAnswer.the-variants.{Next, Finished}
+use Rattle.handout.proofs.MarksSettled.{marks-exist}
+use Rattle.handout.proofs.NextSettles.{next-settles}
+
+module _ (words table : List ℕ) (before : Lent) where
+  -- there is a target, and P holds of it, its sentence and its derivation
+  pub record Target (P : ℕ → List ℕ → List ℕ → Type 0) : Type 0 where
+    pub g : Grammar
+    pub r : ℕ
+    pub t : Tree g (g .start)
+    pub wanted : Wanted words table (before .marks) g r t
+    pub holds : P r (sentence t) (derivation t)
+
+  -- "Given exactly when", of each refusal, as `next` gives it: 1, 2, 11 and 12 never
+  abbrev pub Given : Refusal → Type 0
+  Given (broken-layout p) = layout words ≡ faults p
+  Given (no-tree A) = Are words (λ g. Lowest (NoTree g) A)
+  Given (unreached A) = Are words (λ g. AllTrees g × Lowest (Unreached g) A)
+  Given (oversize r) = Are words (λ g. AllTrees g × AllReached g × Lowest (Oversize g) r)
+  Given not-its-table = Are words (λ g. Accepted g × ¬ HasTable g table)
+  Given (few-marks n) = Are words (λ g. Own table g × (n ≡ R g) × (length (before .marks) < n))
+  Given (too-short n) = Target (λ k s d. (n ≡ length s) × (length (before .tokens) < n))
+  Given (derivation-short n) =
+      Target (λ k s d. (length s ≤ length (before .tokens)) × (n ≡ length d) × (length (before .rules) < n))
+  Given not-version-one = ⊥
+  Given bad-length = ⊥
+  Given too-many-words = ⊥
+  Given (no-derivation p) = ⊥
+  Given long-list = ⊥
+
+  -- and of Finished
+  abbrev pub GivenFinished : Type 0
+  GivenFinished = Are words (λ g. Own table g × (R g ≤ length (before .marks)) × AllUsed g (before .marks))
+
+  -- and of Next
+  abbrev pub GivenNext : ℕ → ℕ → ℕ → Type 0
+  GivenNext r n m =
+      Target (λ k s d.
+      (r ≡ k) × (n ≡ length s) × (m ≡ length d) × (n ≤ length (before .tokens)) × (m ≤ length (before .rules)))
+
+  -- what Next r n m says of the buffers: the sentence and the derivation in front, what lay behind them, and the marks set
+  pub record Handed (after : Lent) (r n m : ℕ) (g : Grammar) : Type 0 where
+    pub t : Tree g (g .start)
+    pub wanted : Wanted words table (before .marks) g r t
+    pub tokens : Written (sentence t) (before .tokens) n (after .tokens)
+    pub rules : Written (derivation t) (before .rules) m (after .rules)
+    pub marks : Marked (derivation t) (before .marks) (after .marks)
+
+  only : {after : Lent} (r : Refusal) → NextPromise words table before (refused r) after → Given r × (after ≡ before)
+  only (broken-layout p) (row-4 e) = (e, refl)
+  only (no-tree A) (row-5 {g = g} e low) = ((g, e, low), refl)
+  only (unreached A) (row-6 {g = g} e t low) = ((g, e, (t, low)), refl)
+  only (oversize r) (row-7 {g = g} e t u low) = ((g, e, (t, u, low)), refl)
+  only not-its-table (row-8 {g = g} e a n) = ((g, e, (a, n)), refl)
+  only (few-marks n) (row-9 {g = g} e a h l) = ((g, e, ((a, h), refl, l)), refl)
+  only (too-short n) (row-3 {g = g} {r = r} {t = t} w l) =
+      (record { g = g; r = r; t = t; wanted = w; holds = (refl, l) }, refl)
+  only (derivation-short n) (row-10 {g = g} {r = r} {t = t} w l m) =
+      (record { g = g; r = r; t = t; wanted = w; holds = (l, refl, m) }, refl)
+  only not-version-one p = elim p [ ]
+  only bad-length p = elim p [ ]
+  only too-many-words p = elim p [ ]
+  only (no-derivation q) p = elim p [ ]
+  only long-list p = elim p [ ]
+
+  allowed : (r : Refusal) → Given r → NextPromise words table before (refused r) before
+  allowed (broken-layout p) e = row-4 e
+  allowed (no-tree A) (g, e, low) = row-5 e low
+  allowed (unreached A) (g, e, (t, low)) = row-6 e t low
+  allowed (oversize r) (g, e, (t, u, low)) = row-7 e t u low
+  allowed not-its-table (g, e, (a, n)) = row-8 e a n
+  allowed (few-marks n) (g, e, ((a, h), same, l)) = rw same (row-9 e a h (rw same at l))
+  allowed (too-short n) z = let (same, l) = z .holds in rw same (row-3 (z .wanted) (rw same at l))
+  allowed (derivation-short n) z = let (fits, same, l) = z .holds in rw same (row-10 (z .wanted) fits (rw same at l))
+  allowed not-version-one z = absurd z
+  allowed bad-length z = absurd z
+  allowed too-many-words z = absurd z
+  allowed (no-derivation p) z = absurd z
+  allowed long-list z = absurd z
+
+  only-finished : {after : Lent} → NextPromise words table before Finished after → GivenFinished × (after ≡ before)
+  only-finished (finished {g = g} e a h l u) = ((g, e, ((a, h), l, u)), refl)
+
+  allowed-finished : GivenFinished → NextPromise words table before Finished before
+  allowed-finished (g, e, ((a, h), l, u)) = finished e a h l u
+
+  only-next : {after : Lent} {r n m : ℕ} → NextPromise words table before (Next r n m) after →
+      GivenNext r n m × Are words (Handed after r n m)
+  only-next (next {g = g} {r = r} {t = t} w l m k) = (
+    record { g = g; r = r; t = t; wanted = w; holds = (refl, refl, refl, l, m) },
+    (
+      g,
+      w .grammar,
+      record {
+        t = t;
+        wanted = w;
+        tokens = written (sentence t) (before .tokens) l;
+        rules = written (derivation t) (before .rules) m;
+        marks = k;
+      },
+    ),
+  )
+
+  allowed-next : {r n m : ℕ} → GivenNext r n m → (after : Lent) × NextPromise words table before (Next r n m) after
+  allowed-next z =
+      let (target, n-is, m-is, l, m) = z .holds in
+      let (marks, marked) = marks-exist (derivation (z .t)) (before .marks) in
+      let after : Lent = record {
+        marks = marks;
+        tokens = over (sentence (z .t)) (before .tokens);
+        rules = over (derivation (z .t)) (before .rules);
+      } in
+      (after, rw (target, n-is, m-is) (next (z .wanted) (rw n-is at l) (rw m-is at m) marked))
+
+module _ {words table : List ℕ} {before after : Lent} {a : NextAnswer} (p : NextPromise words table before a after) where
+  -- EXACTLY WHEN, of every refusal, of Finished and of Next
+  pub next-refuses : (r : Refusal) → (a ≡ refused r) ↔ Given words table before r
+  next-refuses r = (
+    λ e. only words table before r (rw e at p) .0,
+    λ h. next-settles words table before p (allowed words table before r h) .0,
+  )
+
+  pub next-finished : (a ≡ Finished) ↔ GivenFinished words table before
+  next-finished = (
+    λ e. only-finished words table before (rw e at p) .0,
+    λ h. next-settles words table before p (allowed-finished words table before h) .0,
+  )
+
+  pub next-next : (r n m : ℕ) → (a ≡ Next r n m) ↔ GivenNext words table before r n m
+  next-next r n m = (
+    λ e. only-next words table before (rw e at p) .0,
+    λ h. next-settles words table before p (allowed-next words table before h .1) .0,
+  )
+
+  -- 4, with the place said of grammars and their words
+  pub next-first-offence : (q : ℕ) → (a ≡ refused (broken-layout q)) ↔ FaultAt words q
+  next-first-offence q =
+      let (to, from) = next-refuses (broken-layout q) in
+      let (there, back) = layout-faults-exact words q in
+      (λ e. there (to e), λ h. from (back h))
+
+  -- "no buffer changes" at a refusal, and Finished "writes nothing"
+  pub next-keeps : (r : Refusal) → a ≡ refused r → after ≡ before
+  next-keeps r e = only words table before r (rw e at p) .1
+
+  pub next-finished-keeps : a ≡ Finished → after ≡ before
+  next-finished-keeps e = only-finished words table before (rw e at p) .1
+
+  -- at Next the buffers are as `Handed` says
+  pub next-writes : (r n m : ℕ) → a ≡ Next r n m → Are words (Handed words table before after r n m)
+  next-writes r n m e = only-next words table before (rw e at p) .1

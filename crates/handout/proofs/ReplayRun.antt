@@ -1,0 +1,180 @@
+-- A run of `replay` from the start to the end: the tokens passed so far stand in the buffer, and in front of what the replay
+-- comes to from there on; at the end nothing but they is left. And so the rows of document 01. Assumes nothing.
+use mathlib.Core.Path.{_≡_, refl, sym, ap, _∙_, subst}
+use mathlib.Core.List.{List, [], _∷_}
+use Prim.Native.Nat.{ℕ, _≤_, _<_}
+use native.Mathlib.Omega.{arith}
+use lib.ListN.{length, set}
+use Rattle.answers.specs.Buffers.{over}
+use Rattle.grammar.specs.Words.{Grammar, layout, reads}
+use Rattle.grammar.specs.Derivation.{Start}
+use Rattle.grammar.proofs.LayoutExact.{layout-exact, in-bounds}
+use Rattle.grammar.proofs.WordsFew.{words-few}
+use Rattle.grammar.proofs.RulePlaces as places
+use Rattle.grammar.proofs.Replay.{stopped, replayed, replay, replay-exact, replay-stops}
+use Rattle.tables.specs.View.{View}
+use Rattle.tables.proofs.RulesInView.{viewed-rule}
+use Rattle.handout.specs.Replay.{Replay, row-11, row-3, done}
+use Rattle.handout.specs.ReplaySteps.{side, waiting, formOf, rest, inFront, allFront, stored, Ground, Kept, Onward}
+use Rattle.handout.specs.ReplaySteps.{Bounded, Moved, turned, token, Whole, Ended, Ran}
+use Rattle.handout.specs.declared.replayed.Open.{Open}
+use Rattle.handout.specs.declared.replayed.Move.{Move}
+use Rattle.handout.specs.declared.replayed.Move.the-variants.{On, End, Stop}
+use Rattle.handout.specs.declared.replayed.Outcome.{Outcome}
+use Rattle.handout.specs.declared.replayed.Outcome.the-variants.{Sentence, Stopped}
+use Rattle.handout.specs.declared.ReplayAnswer.{ReplayAnswer}
+use Rattle.handout.specs.declared.ReplayAnswer.the-variants.{Done, Refused}
+use Rattle.handout.proofs.ReplayForms.{all-derived, all-stopped, in-front-length, stored-over}
+use Rattle.handout.proofs.ReplayStepped.{counted}
+
+pub record Held (g : Grammar) (ws list ats lefts : List ℕ) (o : Open) (before sentence : List ℕ) : Type 0 where
+  pub passed : List ℕ
+  pub count : o .tokens ≡ length passed
+  pub holds : sentence ≡ stored passed before
+  pub replays : replay g list ≡ allFront passed (rest g ws list ats lefts o)
+
+-- the start symbol is the word 2
+abbrev pub outset : Open
+outset = record { at = 2; left = 1; depth = 0; next = 0; tokens = 0 }
+
+start-form : (ws ats lefts : List ℕ) (g : Grammar) → layout ws ≡ reads g → formOf ws ats lefts outset ≡ Start g
+unfolding side waiting
+start-form ws ats lefts g e = rw (layout-exact ws g .0 e .1)
+
+pub held-start : {ws starts : List ℕ} {n rules : ℕ} (g : Grammar) → View ws starts n rules g → (list ats lefts before : List ℕ) →
+    Held g ws list ats lefts outset before before
+unfolding replay
+held-start {ws} g view list ats lefts before = record {
+  passed = [];
+  count = refl;
+  holds = refl;
+  replays = ap (replayed g list 0) (sym (start-form ws ats lefts g (view .is)));
+}
+
+kept-size : (ws ats lefts : List ℕ) → length (formOf ws ats lefts outset) ≡ 1
+unfolding side waiting
+kept-size ws ats lefts = refl
+
+pub kept-start : {ws list ats lefts : List ℕ} → 3 ≤ length ws → 4096 ≤ length ats → 4096 ≤ length lefts →
+    Kept ws list ats lefts outset
+kept-start {ws} {list} {ats} {lefts} h k l = record {
+  room-ats = k;
+  room-lefts = l;
+  inside = h;
+  all-inside = λ i m. absurd (let z : i < 0 = m in omega arith);
+  waits = omega arith;
+  used = omega arith;
+  few-tokens = omega (arith, kept-size ws ats lefts);
+}
+
+-- a move, by what it is
+pub onward : {ws list ats lefts ats′ lefts′ : List ℕ} {o o′ : Open} (m : Move) → m ≡ On o′ →
+    Bounded ws list ats lefts o m ats′ lefts′ → Onward ws list ats lefts o ats′ lefts′ o′
+onward {ws} {list} {ats} {lefts} {ats′} {lefts′} {o} m e z =
+    subst (λ (x : Move). Bounded ws list ats lefts o x ats′ lefts′) e z
+
+module _ {g : Grammar} {ws list ats lefts : List ℕ} {o : Open} {before sentence : List ℕ}
+    (held : Held g ws list ats lefts o before sentence) where
+  goes-on : {ats′ lefts′ sentence′ : List ℕ} {o′ : Open} → Moved g ws list ats lefts o sentence (On o′) ats′ lefts′ sentence′ →
+      Held g ws list ats′ lefts′ o′ before sentence′
+  goes-on (turned t) = record {
+    passed = held .passed;
+    count = t .0 ∙ held .count;
+    holds = held .holds;
+    replays = held .replays ∙ ap (allFront (held .passed)) (t .1);
+  }
+  goes-on (token s e t) = record {
+    passed = s ∷ held .passed;
+    count = omega (arith, held .count);
+    holds = ap (λ (l : List ℕ). set l (o .tokens) s) (held .holds) ∙
+        ap (λ (i : ℕ). set (stored (held .passed) before) i s) (held .count);
+    replays = held .replays ∙ ap (allFront (held .passed)) t;
+  }
+
+  comes-to : {ats′ lefts′ sentence′ : List ℕ} {tokens : ℕ} →
+      Moved g ws list ats lefts o sentence (End tokens) ats′ lefts′ sentence′ → Whole g list before sentence′ tokens
+  comes-to (turned t) = record {
+    passed = held .passed;
+    count = t .0 ∙ held .count;
+    holds = held .holds;
+    derives = held .replays ∙ ap (allFront (held .passed)) (t .1) ∙ all-derived (held .passed) [];
+  }
+
+  halts : {ats′ lefts′ sentence′ : List ℕ} {p : ℕ} → Moved g ws list ats lefts o sentence (Stop p) ats′ lefts′ sentence′ →
+      replay g list ≡ stopped p
+  halts {p = p} (turned t) = held .replays ∙ ap (allFront (held .passed)) t ∙ all-stopped (held .passed) p
+
+  module _ {ats′ lefts′ sentence′ : List ℕ} (m : Move)
+      (moved : Moved g ws list ats lefts o sentence m ats′ lefts′ sentence′) where
+    pub held-on : {o′ : Open} → m ≡ On o′ → Held g ws list ats′ lefts′ o′ before sentence′
+    held-on e = goes-on (subst (λ (x : Move). Moved g ws list ats lefts o sentence x ats′ lefts′ sentence′) e moved)
+
+    pub held-end : {tokens : ℕ} → m ≡ End tokens → Whole g list before sentence′ tokens
+    held-end e = comes-to (subst (λ (x : Move). Moved g ws list ats lefts o sentence x ats′ lefts′ sentence′) e moved)
+
+    pub held-stop : {p : ℕ} → m ≡ Stop p → replay g list ≡ stopped p
+    held-stop e = halts (subst (λ (x : Move). Moved g ws list ats lefts o sentence x ats′ lefts′ sentence′) e moved)
+
+-- the bounds that a grammar gives
+pub ground : {ws starts list : List ℕ} {n rules : ℕ} {g : Grammar} → View ws starts n rules g → length list ≤ 4096 →
+    Ground ws starts list rules
+ground {ws} {starts} {list} {n} {rules} {g} view few = record {
+  few-words = omega (arith, words-few ws g (view .is));
+  few-rules = omega (arith, view .all-rules, in-bounds ws (view .is) .at-most-256);
+  few-numbers = few;
+  whole = λ k l.
+      let (A, w, r) = viewed-rule view k l in
+      let within = places.rule-within ws g (view .is) k A w (r .stands) in
+      omega (arith, view .begin k (omega (arith, view .all-rules)), counted view r, within);
+}
+
+pub three-words : {ws starts : List ℕ} {n rules : ℕ} {g : Grammar} → View ws starts n rules g → 3 ≤ length ws
+three-words {ws} {g = g} view = rw (layout-exact ws g .0 (view .is) .1) (omega arith)
+
+-- the rows of a list that is not too long
+module _ {ws starts list : List ℕ} {n rules : ℕ} {g : Grammar} (view : View ws starts n rules g) (few : length list ≤ 4096) where
+  pub answers-11 : {aside before after : List ℕ} {r : Outcome} {p : ℕ} {a : ReplayAnswer} → Ran g list aside r after →
+      r ≡ Stopped p → a ≡ Refused 11 p → Replay ws list before a before
+  answers-11 {aside} {before} {after} {r} {p} z e q =
+      rw q (row-11 (view .is) few (replay-stops g list p .0 (subst (λ (x : Outcome). Ended g list aside x after) e (z .ended))))
+
+  short : {aside before after : List ℕ} {tokens : ℕ} → Whole g list aside after tokens → length before < tokens →
+      Replay ws list before (Refused 3 tokens) before
+  short {tokens = tokens} whole h =
+      let t = inFront (whole .passed) [] in
+      let long : tokens ≡ length t = omega (arith, whole .count, in-front-length (whole .passed) []) in
+      rw long (row-3 (view .is) few (replay-exact g list t .0 (whole .derives)) (omega arith))
+
+  whole-of : {aside after : List ℕ} {r : Outcome} {tokens : ℕ} → Ran g list aside r after → r ≡ Sentence tokens →
+      Whole g list aside after tokens
+  whole-of {aside} {after} z e = subst (λ (x : Outcome). Ended g list aside x after) e (z .ended)
+
+  pub answers-3 : {aside before after : List ℕ} {r : Outcome} {tokens : ℕ} {a : ReplayAnswer} → Ran g list aside r after →
+      r ≡ Sentence tokens → length before < tokens → a ≡ Refused 3 tokens → Replay ws list before a before
+  answers-3 z e h q = rw q (short (whole-of z e) h)
+
+  -- the second run writes what the first has counted
+  writes : {aside before after after′ : List ℕ} {tokens tokens′ : ℕ} → Whole g list aside after tokens →
+      Whole g list before after′ tokens′ → tokens ≤ length before → Replay ws list before (Done tokens) after′
+  writes {before = before} {after′ = after′} {tokens = tokens} whole whole′ room =
+      let d = whole .derives in
+      let d′ = whole′ .derives in
+      let t = inFront (whole .passed) [] in
+      let same : inFront (whole′ .passed) [] ≡ t = cc in
+      let long : tokens ≡ length t = omega (arith, whole .count, in-front-length (whole .passed) []) in
+      let long′ : length (whole′ .passed) ≡ length t = omega (arith, ap length same, in-front-length (whole′ .passed) []) in
+      let held : after′ ≡ over t before =
+      whole′ .holds ∙ stored-over (whole′ .passed) before (omega arith) ∙ ap (λ (u : List ℕ). over u before) same in
+      rw (held, long) (done (view .is) few (replay-exact g list t .0 d) (omega arith))
+
+  never-both : {aside after : List ℕ} {tokens p : ℕ} → Whole g list aside after tokens → replay g list ≡ stopped p → ⊥
+  never-both whole e = let d = whole .derives in let z : _≡_ {A = ℕ} 0 1 = cc in omega arith
+
+  pub answers-done : {aside before after after′ : List ℕ} {r r′ : Outcome} {tokens : ℕ} {a : ReplayAnswer} →
+      Ran g list aside r after → r ≡ Sentence tokens → tokens ≤ length before → Ran g list before r′ after′ → a ≡ Done tokens →
+      Replay ws list before a after′
+  answers-done {aside} {before} {after} {after′} {r} {r′} {tokens} z e room z′ q = rw q (go r′ (z′ .ended))
+    where
+      go : (r′ : Outcome) → Ended g list before r′ after′ → Replay ws list before (Done tokens) after′
+      go (Stopped p) s = absurd (never-both (whole-of z e) s)
+      go (Sentence tokens′) w = writes (whole-of z e) w room

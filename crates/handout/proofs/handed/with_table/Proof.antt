@@ -1,0 +1,70 @@
+-- `handout::handed::with_table` meets its contract: 9, Finished, or what the target comes to. Assumes nothing.
+use borrow.Author.Needs.{needs}
+use native.Mathlib.Omega.{arith}
+use Rattle.handout.proofs.NextOutcomes.{refuses-9, finishes, asks}
+use Rattle.handout.proofs.handed.with_table.Statement.{statement}
+use Rattle.handout.proofs.handed.with_table.Tie as tie
+
+count-rules-requires : tie.Need-count-rules-requires
+count-rules-requires c κs = search needs
+
+returns : tie.Need-returns
+returns c =
+    let counted = c .before in
+    refuses-9 (counted .count-rules .ensures .1) _ (counted .before .before .before .before .before .before .pre) (omega arith)
+
+first-unused-requires : tie.Need-first-unused-requires
+first-unused-requires c κs = search needs
+
+enum-told : tie.Need-enum-told
+enum-told c = search needs
+
+enum-known-target : tie.Need-enum-known-target
+enum-known-target c = search needs
+
+hand-out-requires : tie.Need-hand-out-requires
+hand-out-requires c κs =
+    let found = c .before .before .before .before .before .before in
+    let counted = found .before .before .before in
+    asks (counted .count-rules .ensures .1) (counted .before .before .before .before .before .before .pre)
+    (found .first-unused .ensures)
+    (c .before .before .before .before .target .given .1) (omega arith)
+
+same-length : tie.Need-same-length
+same-length c = search needs
+
+returns-2 : tie.Need-returns-2
+returns-2 c =
+    let found = c .before .before in
+    let counted = found .before .before .before in
+    finishes (counted .count-rules .ensures .1) _ (counted .before .before .before .before .before .before .pre)
+    (found .first-unused .ensures) (c .enum-told .given .1) (omega arith)
+
+same-length-2 : tie.Need-same-length-2
+same-length-2 c = search needs
+
+same-length-3 : tie.Need-same-length-3
+same-length-3 c = search needs
+
+same-length-4 : tie.Need-same-length-4
+same-length-4 c = search needs
+
+returns-3 : tie.Need-returns-3
+returns-3 c = search needs
+
+pub with-table-spec : {M : Type 1} → statement M
+with-table-spec =
+    tie.close
+    (tie.spec
+    count-rules-requires
+    returns
+    first-unused-requires
+    enum-told
+    enum-known-target
+    hand-out-requires
+    same-length
+    returns-2
+    same-length-2
+    same-length-3
+    same-length-4
+    returns-3)

@@ -1,0 +1,64 @@
+-- `handout::marks::mark_rules` meets its contract. The loop's invariant: the numbers passed are marked. The measure is what is
+-- left of the numbers. Assumes nothing.
+use Prim.Native.Nat.{_-_, _≤_}
+use native.Mathlib.Omega.{arith}
+use mathlib.Core.Path.{_≡_}
+use lib.ListN.{take}
+use borrow.Author.Needs.{needs}
+use Rattle.handout.specs.Next.{Marked}
+use Rattle.handout.proofs.MarkLaws.{marked-none, marked-next}
+use Rattle.handout.proofs.marks.mark_rules.Statement.{statement}
+use Rattle.handout.proofs.marks.mark_rules.Tie as tie
+
+abbrev Inv-loop : tie.InvT-loop
+Inv-loop derivation count marks₀ i₀ marks i = (i ≤ count) × Marked (take i derivation) marks₀ marks
+
+abbrev μ-loop : tie.MeasureT-loop
+μ-loop derivation count marks₀ i₀ marks i = count - i
+
+loop-holds : tie.Need-loop-holds Inv-loop μ-loop
+loop-holds c = (search needs, marked-none _)
+
+mul-mark-one : tie.Need-mul-mark-one Inv-loop μ-loop
+mul-mark-one c = search needs
+
+shared-slice-read-mark-one : tie.Need-shared-slice-read-mark-one Inv-loop μ-loop
+shared-slice-read-mark-one c = search needs
+
+mark-one-requires : tie.Need-mark-one-requires Inv-loop μ-loop
+mark-one-requires c κs = search needs
+
+add-i : tie.Need-add-i Inv-loop μ-loop
+add-i c = search needs
+
+loop-less : tie.Need-loop-less Inv-loop μ-loop
+loop-less c = search needs
+
+loop-again : tie.Need-loop-again Inv-loop μ-loop
+loop-again c =
+    let at = c .before .before .before .before .before .before .loop in
+    (search needs, marked-next _ (at .i) (omega arith) (at .inv .1) (c .before .before .mark-one .ensures))
+
+same-length : tie.Need-same-length Inv-loop μ-loop
+same-length c = search needs
+
+returns : tie.Need-returns Inv-loop μ-loop
+returns c =
+    let passed : c .before .loop .i ≡ c .before .before .before .before .args .count = omega arith in
+    rw passed at (c .before .loop .inv .1)
+
+pub mark-rules-spec : {M : Type 1} → statement M
+mark-rules-spec =
+    tie.close
+    (tie.spec
+    Inv-loop
+    μ-loop
+    loop-holds
+    mul-mark-one
+    shared-slice-read-mark-one
+    mark-one-requires
+    add-i
+    loop-less
+    loop-again
+    same-length
+    returns)

@@ -1,0 +1,40 @@
+-- `handout::replay` meets its contract: row 4 is the judge's, and the others are those of a grammar. Assumes nothing.
+use borrow.Author.Needs.{needs}
+use Rattle.tables.proofs.Outcomes.{broken-of, read-of}
+use Rattle.handout.specs.Replay.{row-4}
+use Rattle.handout.proofs.replay.Statement.{statement}
+use Rattle.handout.proofs.replay.Tie as tie
+
+judge-requires : tie.Need-judge-requires
+judge-requires c κs = search needs
+
+enum-known-place : tie.Need-enum-known-place
+enum-known-place c = search needs
+
+enum-known-nonterminals : tie.Need-enum-known-nonterminals
+enum-known-nonterminals c = search needs
+
+of-grammar-requires : tie.Need-of-grammar-requires
+of-grammar-requires c κs =
+    (_, read-of _ (c .before .before .before .before .judge .ensures) (c .before .before .nonterminals .given .1))
+
+returns : tie.Need-returns
+returns c = row-4 (broken-of _ (c .before .before .before .judge .ensures) (c .before .place .given .1))
+
+same-length : tie.Need-same-length
+same-length c = search needs
+
+returns-2 : tie.Need-returns-2
+returns-2 c = search needs
+
+pub replay-spec : {M : Type 1} → statement M
+replay-spec =
+    tie.close
+    (tie.spec
+    judge-requires
+    enum-known-place
+    enum-known-nonterminals
+    of-grammar-requires
+    returns
+    same-length
+    returns-2)

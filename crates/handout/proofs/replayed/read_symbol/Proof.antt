@@ -1,0 +1,75 @@
+-- `handout::replayed::read_symbol` meets its contract: a nonterminal is `expand`'s, and a token is passed. Assumes nothing.
+use borrow.Author.Needs.{needs}
+use native.Mathlib.Omega.{arith}
+use Prim.Native.Nat.{_≤_}
+use lib.ListN.{getD}
+use Rattle.handout.specs.ReplaySteps.{turned}
+use Rattle.handout.proofs.ReplayStepped.{passes, passes-bounded, copied}
+use Rattle.handout.proofs.replayed.read_symbol.Statement.{statement}
+use Rattle.handout.proofs.replayed.read_symbol.Tie as tie
+
+word-requires : tie.Need-word-requires
+word-requires c κs = search needs
+
+expand-requires : tie.Need-expand-requires
+expand-requires c κs = search needs
+
+same-length : tie.Need-same-length
+same-length c = search needs
+
+same-length-2 : tie.Need-same-length-2
+same-length-2 c = search needs
+
+returns : tie.Need-returns
+returns c =
+    let expanded = c .before .before .before .before in
+    let below = expanded .before .before .before in
+    let e = expanded .expand .ensures in
+    (e .0, λ g view. turned (e .1 g _ view (omega (arith, below .if1 .taken, below .before .word .ensures))))
+
+copy-requires : tie.Need-copy-requires
+copy-requires c κs = search needs
+
+add-t10 : tie.Need-add-t10
+add-t10 c = search needs
+
+sub-t19 : tie.Need-sub-t19
+sub-t19 c = search needs
+
+add-t20 : tie.Need-add-t20
+add-t20 c = search needs
+
+same-length-3 : tie.Need-same-length-3
+same-length-3 c = search needs
+
+returns-2 : tie.Need-returns-2
+returns-2 c =
+    let stored = c .before .before .before .before .before in
+    let token = stored .before .before in
+    let start = token .before .before .before .before .before .before .before in
+    let a = start .args in
+    let p = start .pre in
+    let kept = p .1 .1 in
+    let s = getD (a .words .now) (a .form .at) 0 in
+    let at-least : a .n ≤ s = omega (arith, token .if1 .left, token .before .word .ensures) in (
+      passes-bounded kept (p .0),
+      λ g view.
+          let past = passes kept (p .0) g (omega (arith, view .nonterminals)) in
+          copied g (a .words .now) (a .list .now) _ _ (a .form) (a .sentence .now) s (stored .copy .ensures) past,
+    )
+
+pub read-symbol-spec : {M : Type 1} → statement M
+read-symbol-spec =
+    tie.close
+    (tie.spec
+    word-requires
+    expand-requires
+    same-length
+    same-length-2
+    returns
+    copy-requires
+    add-t10
+    sub-t19
+    add-t20
+    same-length-3
+    returns-2)
