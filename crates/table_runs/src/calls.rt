@@ -1,0 +1,135 @@
+// The calls. A lent buffer holds 50,505 everywhere before a call, a number that no table has. Assumes nothing.
+use tables::TableAnswer;
+use tables::TableTest;
+
+// More words than a grammar has, and than a table.
+const MOST_WORDS: usize = 9000;
+
+const MOST_ROOM: usize = 1000;
+
+const UNTOUCHED: u16 = 50505;
+
+pub fn tables_and_test(case: &[u8]) {
+    let mut words = [0; MOST_WORDS];
+    let count = cases::numbers(cases::given(case), &mut words);
+    let mut table = [UNTOUCHED; MOST_ROOM];
+    let room = cases::room(case);
+    lend(&words, count, &mut table, room);
+}
+
+// Lends the front of words and the front of table.
+fn lend(words: &[u16], count: usize, table: &mut [u16], room: usize) {
+    let given = cases::least(count, words.len());
+    let part = cases::least(room, table.len());
+    run(&words[0..given], &mut table[0..part]);
+}
+
+fn run(words: &[u16], table: &mut [u16]) {
+    let answer = tables::tables(words, table);
+    print_answer(answer, table);
+    print_test(tables::test(words, table));
+    print_table(answer, words, table);
+}
+
+// The answer, and whether the table is kept past what was written.
+fn print_answer(answer: TableAnswer, table: &[u16]) {
+    match answer {
+        TableAnswer::Done(length) => {
+            print::text(b" done");
+            print::number(length);
+            print_kept(table, length);
+        }
+        TableAnswer::Refused { number, place } => {
+            print::text(b" refused");
+            print::number(number as usize);
+            print::number(place);
+            print_kept(table, 0);
+        }
+    }
+}
+
+fn print_kept(table: &[u16], from: usize) {
+    if untouched(table, from) {
+        print::text(b" kept");
+    } else {
+        print::text(b" changed");
+    }
+}
+
+// Whether nothing was written from an index on.
+fn untouched(table: &[u16], from: usize) -> bool {
+    let mut i = from;
+    while i < table.len() {
+        if table[i] != UNTOUCHED {
+            return false;
+        }
+        i += 1;
+    }
+    true
+}
+
+fn print_test(answer: TableTest) {
+    match answer {
+        TableTest::Its => print::text(b" its"),
+        TableTest::NotIts => print::text(b" not its"),
+        TableTest::Broken { place } => {
+            print::text(b" broken");
+            print::number(place);
+        }
+    }
+}
+
+// Whether the table that was written is the only one near it that passes the test, and its words.
+fn print_table(answer: TableAnswer, words: &[u16], table: &mut [u16]) {
+    if let TableAnswer::Done(length) = answer {
+        let written = cases::least(length, table.len());
+        print_alone(alone(words, &mut table[0..written]));
+        print_words(&table[0..written]);
+    }
+}
+
+fn print_alone(is_alone: bool) {
+    if is_alone {
+        print::text(b" alone,");
+    } else {
+        print::text(b" not alone,");
+    }
+}
+
+// Whether each table that differs from this one in one word, by one, fails the test.
+fn alone(words: &[u16], table: &mut [u16]) -> bool {
+    let mut i = 0;
+    while i < table.len() {
+        if !fails_changed(words, table, i) {
+            return false;
+        }
+        i += 1;
+    }
+    true
+}
+
+fn fails_changed(words: &[u16], table: &mut [u16], at: usize) -> bool {
+    if table.len() <= at {
+        return false;
+    }
+    let old = table[at];
+    table[at] = std::num::wrapping_add_u16(old, 1);
+    let answer = tables::test(words, table);
+    table[at] = old;
+    match answer {
+        TableTest::NotIts => true,
+        _ => false,
+    }
+}
+
+fn print_words(words: &[u16]) {
+    let mut i = 0;
+    while i < words.len() {
+        print::number(wide(words[i]));
+        i += 1;
+    }
+}
+
+fn wide(word: u16) -> usize {
+    word as usize
+}
