@@ -33,7 +33,7 @@ use Rattle.handout.specs.Next.{Lent, Marked, Wanted, NextPromise}
 use Rattle.handout.specs.Next.{row-4, row-5, row-6, row-7, row-8, row-9, finished, row-3, row-10, next}
 use Rattle.handout.specs.Asked.{Asked}
 use Rattle.handout.specs.Listing.{Known, Wrote}
-use Rattle.handout.specs.TreeListing.{TreeReady, TreeWritten, none-so-far}
+use Rattle.handout.specs.TreeListing.{TreeReady, TreeCounted, TreeWritten, none-so-far}
 use Rattle.handout.specs.MarkSteps.{FirstUnused}
 use Rattle.handout.specs.declared.marks.Found.{Found}
 use Rattle.handout.specs.declared.marks.Found.the-variants.{At, Nothing}
@@ -142,33 +142,12 @@ module _ {words table : List ℕ} {rules : ℕ} (counted : (g : Grammar) → lay
         let n = counted g e in
         record { g = g; grammar = e; accepted = a; tabled = t; marked = omega arith; target = lowest-found g f n r q }
 
--- the target's tree, and what the lister must know
+-- the target's tree
 module _ {words table marks : List ℕ} {r : ℕ} (a : Asked words table marks r) where
-  pub known-of : {starts : List ℕ} {n : ℕ} (before : List ℕ) → n ≡ getD words 0 0 →
-      starts ≡ over (startsFrom 256 words walkStart) before →
-      Known words starts table n (a .g)
-  known-of before n e = record {
-    view = record {
-      is = a .grammar;
-      begin = λ k l. ap (λ (x : List ℕ). getD x k 0) e ∙ found-starts words (a .g) (a .grammar) before k l;
-      nonterminals = n ∙ ap (λ (x : List ℕ). getD x 0 0) (layout-exact words (a .g) .0 (a .grammar) .1);
-      all-rules = refl;
-    };
-    tabled = a .tabled;
-  }
-
-  pub start-of : {start : ℕ} → start ≡ getD words 2 0 → start ≡ a .g .start
-  start-of s = s ∙ ap (λ (x : List ℕ). getD x 2 0) (layout-exact words (a .g) .0 (a .grammar) .1)
-
   pub target-narrow : r ≤ 65535
   target-narrow = omega (arith, a .target .such .rule, in-bounds words (a .grammar) .at-most-256)
 
-  pub ready-of : {starts : List ℕ} {n start r′ : ℕ} → Known words starts table n (a .g) → start ≡ a .g .start → r′ ≡ r →
-      TreeReady words starts table n start r′
-  ready-of k s q =
-      rw q (record { g = a .g; known = k; starts-at = s; accepted = a .accepted; number = a .target .such .rule })
-
-  pub tree-of : (t : Tree (a .g) (a .g .start)) × TreeOf plain (a .g) r t
+  tree-of : (t : Tree (a .g) (a .g .start)) × TreeOf plain (a .g) r t
   tree-of =
       tree-of-exists plain (a .g) (in-bounds words (a .grammar)) (a .accepted .trees) (a .accepted .reached) r (a .target .such .rule)
 
@@ -182,29 +161,73 @@ module _ {words table marks : List ℕ} {r : ℕ} (a : Asked words table marks r
     tree = tree-of .1;
   }
 
+-- what the lister must know: n, the start and the rules' starts are the grammar's, and r′ is the target
+pub record Prepared (words table marks starts : List ℕ) (n start r r′ : ℕ) : Type 0 where
+  pub asked : Asked words table marks r
+  pub known : Known words starts table n (asked .g)
+  pub starts-at : start ≡ asked .g .start
+  pub same : r′ ≡ r
+
+module _ {words table marks starts : List ℕ} {n start r r′ : ℕ} where
+  -- so it is, where they were read from the words
+  pub prepared : (before : List ℕ) → Asked words table marks r → n ≡ getD words 0 0 → start ≡ getD words 2 0 → r′ ≡ r →
+      starts ≡ over (startsFrom 256 words walkStart) before →
+      Prepared words table marks starts n start r r′
+  prepared before a w s q e =
+      let words-are = layout-exact words (a .g) .0 (a .grammar) .1 in
+      record {
+        asked = a;
+        known = record {
+          view = record {
+            is = a .grammar;
+            begin = λ k l. ap (λ (x : List ℕ). getD x k 0) e ∙ found-starts words (a .g) (a .grammar) before k l;
+            nonterminals = w ∙ ap (λ (x : List ℕ). getD x 0 0) words-are;
+            all-rules = refl;
+          };
+          tabled = a .tabled;
+        };
+        starts-at = s ∙ ap (λ (x : List ℕ). getD x 2 0) words-are;
+        same = q;
+      }
+
+  pub ready : Prepared words table marks starts n start r r′ → TreeReady words starts table n start r′
+  ready p =
+      let a = p .asked in
+      let e = p .same in
+      rw e (record {
+        g = a .g;
+        known = p .known;
+        starts-at = p .starts-at;
+        accepted = a .accepted;
+        number = a .target .such .rule;
+      })
+
 -- 3, 10, or the sentence
-module _ {words table : List ℕ} (before : Lent) {r : ℕ} (a : Asked words table (before .marks) r) {starts : List ℕ} {n start : ℕ}
-    (known : Known words starts table n (a .g)) (s : start ≡ a .g .start) {r′ : ℕ} (q : r′ ≡ r) where
+module _ {words table starts : List ℕ} {n start r r′ : ℕ} (before : Lent)
+    (p : Prepared words table (before .marks) starts n start r r′) where
+  abbrev tree : Tree (p .asked .g) (p .asked .g .start)
+  tree = tree-of (p .asked) .0
+
   own : {x x′ y y′ : List ℕ} {so : Lengths} → TreeWritten words starts table n start r′ x x′ y y′ so →
-      Wrote (sentence (tree-of a .0)) (derivation (tree-of a .0)) x x′ y y′ none-so-far so
+      Wrote (sentence tree) (derivation tree) x x′ y y′ none-so-far so
   own {x} {x′} {y} {y′} {so} written =
-      subst (λ (k : ℕ). TreeWritten words starts table n start k x x′ y y′ so) q written (a .g) known s (tree-of a .0) (tree-of a .1)
+      subst (λ (k : ℕ). TreeWritten words starts table n start k x x′ y y′ so) (p .same) written (p .asked .g) (p .known)
+      (p .starts-at) tree (tree-of (p .asked) .1)
 
   -- what was counted
-  module _ {x x′ y y′ : List ℕ} {so : Lengths} (counts : TreeWritten words starts table n start r′ x x′ y y′ so) where
-    tokens-counted : so .tokens ≡ length (sentence (tree-of a .0))
-    tokens-counted = let e = own counts .more-tokens in omega arith
-
-    rules-counted : so .rules ≡ length (derivation (tree-of a .0))
-    rules-counted = let e = own counts .more-rules in omega arith
+  module _ {so : Lengths} (counts : TreeCounted words starts table n start r′ so) where
+    counted : (so .tokens ≡ length (sentence tree)) × (so .rules ≡ length (derivation tree))
+    counted =
+        subst (λ (k : ℕ). TreeCounted words starts table n start k so) (p .same) counts (p .asked .g) (p .known)
+        (p .starts-at) tree (tree-of (p .asked) .1)
 
     pub refuses-3 : length (before .tokens) < so .tokens → NextPromise words table before (Refused 3 (so .tokens)) before
-    refuses-3 l = let e = tokens-counted in rw e (row-3 (wanted a) (omega arith))
+    refuses-3 l = let e = counted .0 in rw e (row-3 (wanted (p .asked)) (omega arith))
 
     pub refuses-10 : so .tokens ≤ length (before .tokens) → length (before .rules) < so .rules →
         NextPromise words table before (Refused 10 (so .rules)) before
     refuses-10 l m =
-        let d = tokens-counted in let e = rules-counted in rw e (row-10 (wanted a) (omega arith) (omega arith))
+        let d = counted .0 in let e = counted .1 in rw e (row-10 (wanted (p .asked)) (omega arith) (omega arith))
 
     -- what was written, and marked
     pub hands-out : {tokens rules marks : List ℕ} {again : Lengths} → so .tokens ≤ length (before .tokens) →
@@ -213,12 +236,12 @@ module _ {words table : List ℕ} (before : Lent) {r : ℕ} (a : Asked words tab
         Marked (take (so .rules) rules) (before .marks) marks →
         NextPromise words table before (Next r (so .tokens) (so .rules)) (record { marks = marks; tokens = tokens; rules = rules })
     hands-out {tokens} {rules} {marks} l m writes marked =
-        let d = tokens-counted in
-        let e = rules-counted in
+        let d = counted .0 in
+        let e = counted .1 in
         let w = own writes in
-        let t : tokens ≡ over (sentence (tree-of a .0)) (before .tokens) = w .sentence ∙ at-front _ (before .tokens) (omega arith) in
-        let u : rules ≡ over (derivation (tree-of a .0)) (before .rules) = w .derivation ∙ at-front _ (before .rules) (omega arith) in
-        let ks = derivation (tree-of a .0) in
+        let ks = derivation tree in
+        let t : tokens ≡ over (sentence tree) (before .tokens) = w .sentence ∙ at-front _ (before .tokens) (omega arith) in
+        let u : rules ≡ over ks (before .rules) = w .derivation ∙ at-front _ (before .rules) (omega arith) in
         let v : Marked (take (length ks) (over ks (before .rules))) (before .marks) marks = rw (← u, ← e) marked in
         let k = marked-written ks (before .rules) v in
-        rw (t, u, d, e) (next (wanted a) (omega arith) (omega arith) k)
+        rw (t, u, d, e) (next (wanted (p .asked)) (omega arith) (omega arith) k)

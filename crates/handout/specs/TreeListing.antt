@@ -91,3 +91,8 @@ abbrev pub TreeWritten : List ℕ → List ℕ → List ℕ → ℕ → ℕ → 
 TreeWritten words starts table n start r tokens tokens′ rules rules′ so =
     (g : Grammar) → Known words starts table n g → start ≡ g .start → (t : Tree g (g .start)) → TreeOf plain g r t →
     Wrote (sentence t) (derivation t) tokens tokens′ rules rules′ none-so-far so
+
+abbrev pub TreeCounted : List ℕ → List ℕ → List ℕ → ℕ → ℕ → ℕ → Lengths → Type 0
+TreeCounted words starts table n start r so =
+    (g : Grammar) → Known words starts table n g → start ≡ g .start → (t : Tree g (g .start)) → TreeOf plain g r t →
+    (so .tokens ≡ length (sentence t)) × (so .rules ≡ length (derivation t))

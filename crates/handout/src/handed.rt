@@ -8,10 +8,11 @@ ghost use Rattle.tables.specs.declared.TableTest.the-variants.{Its, NotIts};
 ghost use Rattle.handout.specs.Next.{Lent, NextPromise};
 ghost use Rattle.handout.specs.Asked.{Asked};
 use crate::NextAnswer;
+use crate::cells::narrow;
 use crate::marks::Found;
 use crate::marks::first_unused;
 use crate::marks::mark_rules;
-use crate::replayed::narrow;
+use crate::tree_lister::count_tree;
 use crate::tree_lister::list_tree;
 use grammar::rules;
 use grammar::walk::Step;
@@ -96,18 +97,7 @@ fn hand_out(
     let rule = narrow(target);
     let mut starts = [0usize; 256];
     rules::find(words, &mut starts);
-    let mut no_tokens = [0u16; 0];
-    let mut no_rules = [0u16; 0];
-    let counted = list_tree(
-        words,
-        &starts,
-        table,
-        n,
-        start,
-        rule,
-        &mut no_tokens,
-        &mut no_rules,
-    );
+    let counted = count_tree(words, &starts, table, n, start, rule);
     let tokens = counted.tokens;
     let numbers = counted.rules;
     if sentence.len() < tokens {

@@ -1,5 +1,6 @@
 // Handing out sentences: `next` and `replay`. What they promise is specs/Next and specs/Replay; what calls of `next` come to
 // from clear marks on is specs/Night.
+mod cells;
 mod handed;
 mod lister;
 mod marks;

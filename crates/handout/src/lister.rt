@@ -1,31 +1,15 @@
 // The lister: writes the listing of a symbol or of a rule, opened by chosen rules, where there is room, and counts it all. The
 // lister for a symbol calls that for a rule, which calls back for each symbol, on falling sizes: the size of a nonterminal is 1
 // plus those of its chosen rule's symbols.
-ghost use mathlib.Core.Path.{_≡_};
-ghost use lib.ListN.{getD, set};
 ghost use Rattle.handout.specs.Listing.{SymbolReady, RuleReady, SymbolWritten, RuleWritten};
+use crate::cells::item;
+use crate::cells::put;
 use grammar::rules;
 
 // How many tokens and how many rule numbers are listed so far, whether or not there was room for them.
 pub struct Lengths {
     pub tokens: usize,
     pub rules: usize,
-}
-
-// The word at index i, and 0 past the end.
-fn item(words: &[u16], i: usize) -> u16
-    ensures { λ r. ⌜ r ≡ getD (now (words .entry)) i 0 ⌝ }
-{
-    if i < words.len() { words[i] } else { 0 }
-}
-
-// Writes v at index i; past the end nothing.
-fn put(part: &mut [u16], i: usize, v: u16)
-    ensures { λ _. ⌜ now (part .exit) ≡ set (now (part .entry)) i v ⌝ }
-{
-    if i < part.len() {
-        part[i] = v;
-    }
 }
 
 // Lists the symbol s: a terminal as itself, a nonterminal as its chosen rule.

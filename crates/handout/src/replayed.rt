@@ -2,7 +2,7 @@
 // symbol and how many symbols are left; the others wait on a stack, which holds at most one for each number of the list.
 ghost use mathlib.Core.Path.{_≡_};
 ghost use Prim.Native.Nat.{ℕ, _+_, _-_, _≤_, _<_};
-ghost use lib.ListN.{length, getD, set};
+ghost use lib.ListN.{length, getD};
 ghost use Rattle.grammar.specs.Words.{Grammar};
 ghost use Rattle.tables.specs.Rows.{Read};
 ghost use Rattle.tables.specs.View.{View};
@@ -10,6 +10,9 @@ ghost use Rattle.handout.specs.Replay.{Replay};
 ghost use Rattle.handout.specs.ReplaySteps.{Ground, Kept, Bounded, Turned, Moved, Ran};
 ghost use Rattle.handout.specs.ReplaySteps.{waitingAbove};
 use crate::ReplayAnswer;
+use crate::cells::item;
+use crate::cells::narrow;
+use crate::cells::put;
 use grammar::rules;
 use grammar::words::word;
 
@@ -39,46 +42,15 @@ pub enum Outcome {
     Stopped { place: usize },
 }
 
-fn wide(x: u16) -> usize
-    ensures { λ r. ⌜ r ≡ x ⌝ }
-{
-    x as usize
-}
-
-pub fn narrow(x: usize) -> u16
-    requires { ⌜ x ≤ 65535 ⌝ }
-    ensures { λ r. ⌜ r ≡ x ⌝ }
-{
-    x as u16
-}
-
-// Stores the word at an index where there is room.
-fn copy(words: &[u16], at: usize, sentence: &mut [u16], tokens: usize)
-    requires { ⌜ at < length (now words) ⌝ }
-    ensures { λ _. ⌜ now (sentence .exit) ≡ set (now (sentence .entry)) tokens (getD (now (words .entry)) at 0) ⌝ }
-{
-    if tokens < sentence.len() {
-        sentence[tokens] = words[at];
-    }
-}
-
-// Stores a number on a stack.
-fn push(stack: &mut [u16], depth: usize, x: usize)
-    requires { ⌜ (depth < length (now stack)) × (x ≤ 65535) ⌝ }
-    ensures { λ _. ⌜ now (stack .exit) ≡ set (now (stack .entry)) depth x ⌝ }
-{
-    stack[depth] = narrow(x);
-}
-
 // The innermost right side that waits.
 fn above(form: Open, ats: &[u16], lefts: &[u16]) -> Open
-    requires { ⌜ (0 < form .depth) × ((form .depth ≤ length (now ats)) × (form .depth ≤ length (now lefts))) ⌝ }
+    requires { ⌜ 0 < form .depth ⌝ }
     ensures { λ r. ⌜ r ≡ waitingAbove (now (ats .entry)) (now (lefts .entry)) form ⌝ }
 {
     let depth = form.depth - 1;
     Open {
-        at: wide(ats[depth]),
-        left: wide(lefts[depth]),
+        at: word(ats, depth),
+        left: word(lefts, depth),
         depth,
         next: form.next,
         tokens: form.tokens,
@@ -116,11 +88,13 @@ fn expand(
     if word(words, at) != word(words, form.at) {
         return Move::Stop { place: next };
     }
-    push(ats, form.depth, form.at + 1);
-    push(lefts, form.depth, form.left - 1);
+    put(ats, form.depth, narrow(form.at + 1));
+    put(lefts, form.depth, narrow(form.left - 1));
+    let count_at = at + 1;
+    let count = word(words, count_at);
     Move::On(Open {
-        at: at + 2,
-        left: word(words, at + 1),
+        at: count_at + 1,
+        left: count,
         depth: form.depth + 1,
         next: next + 1,
         tokens: form.tokens,
@@ -150,7 +124,7 @@ fn read_symbol(
     if word(words, form.at) < n {
         return expand(words, starts, rules, list, form, ats, lefts);
     }
-    copy(words, form.at, sentence, form.tokens);
+    put(sentence, form.tokens, item(words, form.at));
     Move::On(Open {
         at: form.at + 1,
         left: form.left - 1,

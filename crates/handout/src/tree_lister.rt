@@ -4,7 +4,9 @@ ghost use mathlib.Core.Path.{_≡_};
 ghost use Prim.Native.Nat.{_+_, _<_};
 ghost use lib.ListN.{set};
 ghost use Rattle.handout.specs.TreeListing.{SymbolsReady, SymbolsWritten, before, after, SideReady, SideWritten};
-ghost use Rattle.handout.specs.TreeListing.{TreeReady, TreeWritten};
+ghost use Rattle.handout.specs.TreeListing.{TreeReady, TreeCounted, TreeWritten};
+use crate::cells::narrow;
+use crate::cells::put;
 use crate::lister::Lengths;
 use crate::lister::list_rule;
 use crate::lister::list_symbol;
@@ -50,16 +52,11 @@ fn list_number(derivation: &mut [u16], rule: usize, past: Lengths) -> Lengths
     ensures { λ r. ⌜ (r .tokens ≡ past .tokens) × (r .rules ≡ past .rules + 1) ⌝ }
     ensures { λ _. ⌜ now (derivation .exit) ≡ set (now (derivation .entry)) (past .rules) rule ⌝ }
 {
-    let i = past.rules;
-    let so = Lengths {
+    put(derivation, past.rules, narrow(rule));
+    Lengths {
         tokens: past.tokens,
-        rules: i + 1,
-    };
-    if i < derivation.len() {
-        derivation[i] = rule as u16;
-        return so;
+        rules: past.rules + 1,
     }
-    so
 }
 
 // Lists what lies before the open leaf a: what lies before its context rule, that rule's number, and the symbols before the
@@ -197,5 +194,31 @@ pub fn list_tree(
         sentence,
         derivation,
         under,
+    )
+}
+
+// The lengths of that listing: listed into no room.
+pub fn count_tree(
+    words: &[u16],
+    starts: &[usize; 256],
+    table: &[u16],
+    n: usize,
+    start: usize,
+    target: u16,
+) -> Lengths
+    requires { ⌜ TreeReady (now words) (now starts) (now table) n start target ⌝ }
+    ensures { λ r. ⌜ TreeCounted (now (words .entry)) (now (starts .entry)) (now (table .entry)) n start target r ⌝ }
+{
+    let mut no_tokens = [0u16; 0];
+    let mut no_rules = [0u16; 0];
+    list_tree(
+        words,
+        starts,
+        table,
+        n,
+        start,
+        target,
+        &mut no_tokens,
+        &mut no_rules,
     )
 }

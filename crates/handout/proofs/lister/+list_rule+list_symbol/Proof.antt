@@ -13,8 +13,8 @@ use Rattle.handout.specs.Listing.{sizeBy, sizesBy, rightOf}
 use Rattle.handout.proofs.Listings.{terminal-size, number-low}
 use Rattle.handout.proofs.ListerSteps.{Turn, tokens-kept, rules-kept, turns-begin, turn-goes-on, token-listed}
 use Rattle.handout.proofs.ListerSteps.{symbol-ready, symbol-smaller, rule-listed, rule-ready, rule-smaller, chosen-listed}
-use Rattle.handout.proofs.lister.item.Reads as item
-use Rattle.handout.proofs.lister.put.Reads as put
+use Rattle.handout.proofs.cells.item.Reads as item
+use Rattle.handout.proofs.cells.put.Reads as put
 use Rattle.handout.proofs.lister.list_rule.Reads as rule
 use Rattle.handout.proofs.lister.list_rule.Kinds as rule-kinds
 use Rattle.handout.proofs.lister.list_symbol.Reads as symbol

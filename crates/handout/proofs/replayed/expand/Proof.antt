@@ -48,32 +48,28 @@ returns-3 c =
     let h : start .args .form .next < length (start .args .list .now) = omega (arith, more .if1 .left) in
     (tt, λ g n view below. other-rule (p .1 .1) (p .0) view below (read .word .ensures) h l (λ e. omega arith))
 
-add-push : tie.Need-add-push
-add-push c = search needs
+add-narrow : tie.Need-add-narrow
+add-narrow c = search needs
 
-push-requires : tie.Need-push-requires
-push-requires c κs = search needs
+narrow-requires : tie.Need-narrow-requires
+narrow-requires c κs = search needs
 
-sub-push : tie.Need-sub-push
-sub-push c = search needs
+put-requires : tie.Need-put-requires
+put-requires c κs = search needs
 
-push-requires-2 : tie.Need-push-requires-2
-push-requires-2 c κs = search needs
+sub-narrow : tie.Need-sub-narrow
+sub-narrow c = search needs
 
-add-t11 : tie.Need-add-t11
-add-t11 c =
-    let pushed = c .before .before .before .before .before .before .before in
-    let right = pushed .before .before .before .before .before .before .before in
-    let read = right .before in
-    let start = read .before .before .before .before .before .before in
-    let ground = start .pre .1 .0 in
-    let l : read .word .result < start .args .rules = omega (arith, right .if2 .left) in
-    omega (arith, ground .few-words, ground .whole (read .word .result) l)
+narrow-requires-2 : tie.Need-narrow-requires-2
+narrow-requires-2 c κs = search needs
 
-add-word : tie.Need-add-word
-add-word c =
-    let pushed = c .before .before .before .before .before .before .before in
-    let right = pushed .before .before .before .before .before .before .before in
+put-requires-2 : tie.Need-put-requires-2
+put-requires-2 c κs = search needs
+
+add-count-at : tie.Need-add-count-at
+add-count-at c =
+    let same-left = c .before .before .before .before .before .before .before .before .before .before .before .before in
+    let right = same-left .before .before .before .before in
     let read = right .before in
     let start = read .before .before .before .before .before .before in
     let ground = start .pre .1 .0 in
@@ -83,18 +79,26 @@ add-word c =
 word-requires-4 : tie.Need-word-requires-4
 word-requires-4 c κs = search needs
 
-add-t22 : tie.Need-add-t22
-add-t22 c =
-    let pushed = c .before .before .before .before .before .before .before .before .before in
-    let more = pushed .before .before .before .before .before .before .before .before .before in
-    let p = more .before .before .before .before .before .pre in
+add-t13 : tie.Need-add-t13
+add-t13 c =
+    let same-left = c .before .before .before .before .before .before .before .before .before .before .before .before .before in
+    let right = same-left .before .before .before .before in
+    let read = right .before in
+    let start = read .before .before .before .before .before .before in
+    let ground = start .pre .1 .0 in
+    let l : read .word .result < start .args .rules = omega (arith, right .if2 .left) in
+    omega (arith, ground .few-words, ground .whole (read .word .result) l)
+
+add-t17 : tie.Need-add-t17
+add-t17 c =
+    let start = c .before .before .before .before .before .before .before .before .before .before .before .before .before .before .before .before .before .before .before .before .before .before .before .before .before in
+    let p = start .pre in
     omega (arith, p .1 .1 .waits, p .1 .1 .used, p .1 .0 .few-numbers)
 
-add-t23 : tie.Need-add-t23
-add-t23 c =
-    let pushed = c .before .before .before .before .before .before .before .before .before in
-    let more = pushed .before .before .before .before .before .before .before .before .before in
-    let p = more .before .before .before .before .before .pre in
+add-t24 : tie.Need-add-t24
+add-t24 c =
+    let start = c .before .before .before .before .before .before .before .before .before .before .before .before .before .before .before .before .before .before .before .before .before .before .before .before .before in
+    let p = start .pre in
     omega (arith, p .1 .1 .used, p .1 .0 .few-numbers)
 
 same-length : tie.Need-same-length
@@ -105,9 +109,9 @@ same-length-2 c = search needs
 
 returns-4 : tie.Need-returns-4
 returns-4 c =
-    let pushed-left = c .before .before .before .before in
-    let pushed-at = pushed-left .before .before .before .before .before in
-    let same-left = pushed-at .before .before .before in
+    let put-left = c .before .before .before .before in
+    let put-at = put-left .before .before .before .before .before .before in
+    let same-left = put-at .before .before .before .before in
     let right = same-left .before .before .before .before in
     let read = right .before in
     let start = read .before .before .before .before .before .before in
@@ -122,15 +126,16 @@ returns-4 c =
     let l : k < a .rules = omega (arith, right .if2 .left) in
     let same : getD ws at 0 ≡ getD ws (a .form .at) 0 =
     omega (arith, same-left .if3 .left, same-left .before .word3 .ensures, same-left .before .before .word2 .ensures) in
-    let ats = pushed-at .push .ensures in
-    let lefts = pushed-left .push2 .ensures in
+    let ats = rw (put-at .before .narrow .ensures) at (put-at .put .ensures) in
+    let lefts = rw (put-left .before .narrow2 .ensures) at (put-left .put2 .ensures) in
+    let symbols : at + 1 + 1 ≡ at + 2 = omega arith in
     let opened : record {
-      at = at + 2;
+      at = at + 1 + 1;
       left = c .before .word4 .result;
       depth = a .form .depth + 1;
       next = a .form .next + 1;
       tokens = a .form .tokens;
-    } ≡ opening ws at (a .form) = simp (c .before .word4 .ensures) in (
+    } ≡ opening ws at (a .form) = simp (symbols, c .before .word4 .ensures) in (
       expanded ws (a .list .now) _ _ (a .form) at ats lefts opened (opens-bounded kept (p .0) ground k l more),
       λ g n view below.
           let opens-it = opens kept (p .0) view below (read .word .ensures) more (ground .few-numbers) l same in
@@ -149,15 +154,17 @@ expand-spec =
     word-requires-2
     word-requires-3
     returns-3
-    add-push
-    push-requires
-    sub-push
-    push-requires-2
-    add-t11
-    add-word
+    add-narrow
+    narrow-requires
+    put-requires
+    sub-narrow
+    narrow-requires-2
+    put-requires-2
+    add-count-at
     word-requires-4
-    add-t22
-    add-t23
+    add-t13
+    add-t17
+    add-t24
     same-length
     same-length-2
     returns-4)

@@ -27,17 +27,20 @@ returns c =
     let e = expanded .expand .ensures in
     (e .0, λ g view. turned (e .1 g _ view (omega (arith, below .if1 .taken, below .before .word .ensures))))
 
-copy-requires : tie.Need-copy-requires
-copy-requires c κs = search needs
+item-requires : tie.Need-item-requires
+item-requires c κs = search needs
+
+put-requires : tie.Need-put-requires
+put-requires c κs = search needs
 
 add-t10 : tie.Need-add-t10
 add-t10 c = search needs
 
-sub-t19 : tie.Need-sub-t19
-sub-t19 c = search needs
+sub-t20 : tie.Need-sub-t20
+sub-t20 c = search needs
 
-add-t20 : tie.Need-add-t20
-add-t20 c = search needs
+add-t21 : tie.Need-add-t21
+add-t21 c = search needs
 
 same-length-3 : tie.Need-same-length-3
 same-length-3 c = search needs
@@ -45,7 +48,7 @@ same-length-3 c = search needs
 returns-2 : tie.Need-returns-2
 returns-2 c =
     let stored = c .before .before .before .before .before in
-    let token = stored .before .before in
+    let token = stored .before .before .before in
     let start = token .before .before .before .before .before .before .before in
     let a = start .args in
     let p = start .pre in
@@ -55,7 +58,7 @@ returns-2 c =
       passes-bounded kept (p .0),
       λ g view.
           let past = passes kept (p .0) g (omega (arith, view .nonterminals)) in
-          copied g (a .words .now) (a .list .now) _ _ (a .form) (a .sentence .now) s (stored .copy .ensures) past,
+          copied g (a .words .now) (a .list .now) _ _ (a .form) (a .sentence .now) s (rw (stored .before .item .ensures) at (stored .put .ensures)) past,
     )
 
 pub read-symbol-spec : {M : Type 1} → statement M
@@ -67,9 +70,10 @@ read-symbol-spec =
     same-length
     same-length-2
     returns
-    copy-requires
+    item-requires
+    put-requires
     add-t10
-    sub-t19
-    add-t20
+    sub-t20
+    add-t21
     same-length-3
     returns-2)

@@ -1,9 +1,9 @@
--- `handout::lister::item` meets its contract. Assumes nothing.
+-- `handout::cells::item` meets its contract. Assumes nothing.
 use mathlib.Core.Path.{sym}
 use lib.ListN.{List·getD-eq-default}
 use borrow.Author.Needs.{needs}
-use Rattle.handout.proofs.lister.item.Statement.{statement}
-use Rattle.handout.proofs.lister.item.Tie as tie
+use Rattle.handout.proofs.cells.item.Statement.{statement}
+use Rattle.handout.proofs.cells.item.Tie as tie
 
 mul-result : tie.Need-mul-result
 mul-result c = search needs

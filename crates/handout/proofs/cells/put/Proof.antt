@@ -1,9 +1,9 @@
--- `handout::lister::put` meets its contract: a store past the end changes nothing. Assumes nothing.
+-- `handout::cells::put` meets its contract: a store past the end changes nothing. Assumes nothing.
 use mathlib.Core.Path.{sym}
 use lib.Seq.{set-out}
 use borrow.Author.Needs.{needs}
-use Rattle.handout.proofs.lister.put.Statement.{statement}
-use Rattle.handout.proofs.lister.put.Tie as tie
+use Rattle.handout.proofs.cells.put.Statement.{statement}
+use Rattle.handout.proofs.cells.put.Tie as tie
 
 mul-part : tie.Need-mul-part
 mul-part c = search needs
