@@ -20,29 +20,37 @@ find-requires c κs = search needs
 count-tree-requires : tie.Need-count-tree-requires
 count-tree-requires c κs =
     let find = c .before in
-    let known = prepared _ (find .before .before .before .before .before .before .before .before .before .before .pre) (find .before .before .before .before .word .ensures)
-    (find .before .before .before .word2 .ensures) (find .before .before .narrow .ensures) (find .find .ensures) in
+    let narrow = find .before .before in
+    let word = narrow .before .before in
+    let asked = word .before .before .before .before .before .before .pre in
+    let known = prepared _ asked (word .word .ensures) (narrow .before .word2 .ensures) (narrow .narrow .ensures) (find .find .ensures) in
     ready known
 
 returns : tie.Need-returns
 returns c =
     let find = c .before .before .before in
-    let known = prepared _ (find .before .before .before .before .before .before .before .before .before .before .pre) (find .before .before .before .before .word .ensures)
-    (find .before .before .before .word2 .ensures) (find .before .before .narrow .ensures) (find .find .ensures) in
+    let narrow = find .before .before in
+    let word = narrow .before .before in
+    let asked = word .before .before .before .before .before .before .pre in
+    let known = prepared _ asked (word .word .ensures) (narrow .before .word2 .ensures) (narrow .narrow .ensures) (find .find .ensures) in
     refuses-3 _ known (c .before .count-tree .ensures) (omega arith)
 
 returns-2 : tie.Need-returns-2
 returns-2 c =
     let find = c .before .before .before .before in
-    let known = prepared _ (find .before .before .before .before .before .before .before .before .before .before .pre) (find .before .before .before .before .word .ensures)
-    (find .before .before .before .word2 .ensures) (find .before .before .narrow .ensures) (find .find .ensures) in
+    let narrow = find .before .before in
+    let word = narrow .before .before in
+    let asked = word .before .before .before .before .before .before .pre in
+    let known = prepared _ asked (word .word .ensures) (narrow .before .word2 .ensures) (narrow .narrow .ensures) (find .find .ensures) in
     refuses-10 _ known (c .before .before .count-tree .ensures) (omega arith) (omega arith)
 
 list-tree-requires : tie.Need-list-tree-requires
 list-tree-requires c κs =
     let find = c .before .before .before .before .before .before .before in
-    let known = prepared _ (find .before .before .before .before .before .before .before .before .before .before .pre) (find .before .before .before .before .word .ensures)
-    (find .before .before .before .word2 .ensures) (find .before .before .narrow .ensures) (find .find .ensures) in
+    let narrow = find .before .before in
+    let word = narrow .before .before in
+    let asked = word .before .before .before .before .before .before .pre in
+    let known = prepared _ asked (word .word .ensures) (narrow .before .word2 .ensures) (narrow .narrow .ensures) (find .find .ensures) in
     ready known
 
 mark-rules-requires : tie.Need-mark-rules-requires
@@ -59,12 +67,17 @@ same-length-3 c = search needs
 
 returns-3 : tie.Need-returns-3
 returns-3 c =
-    let find = c .before .before .before .before .before .before .before .before .before .before .before .before .before .before .before .before .before in
-    let known = prepared _ (find .before .before .before .before .before .before .before .before .before .before .pre) (find .before .before .before .before .word .ensures)
-    (find .before .before .before .word2 .ensures) (find .before .before .narrow .ensures) (find .find .ensures) in
-    let enough = c .before .before .before .before .before .before .before .before .before .before .before .before .before in
-    hands-out _ known (c .before .before .before .before .before .before .before .before .before .before .before .before .before .before .before .count-tree .ensures) (omega (arith, enough .before .if1 .left)) (omega (arith, enough .if2 .left))
-    (c .before .before .before .before .before .before .before .before .before .list-tree .ensures) (c .before .before .mark-rules .ensures)
+    let marked = c .before .before in
+    let written = marked .before .before .before .before .before .before .before in
+    let enough = written .before .before .before .before in
+    let counted = enough .before .before in
+    let find = counted .before .before in
+    let narrow = find .before .before in
+    let word = narrow .before .before in
+    let asked = word .before .before .before .before .before .before .pre in
+    let known = prepared _ asked (word .word .ensures) (narrow .before .word2 .ensures) (narrow .narrow .ensures) (find .find .ensures) in
+    hands-out _ known (counted .count-tree .ensures) (omega (arith, enough .before .if1 .left)) (omega (arith, enough .if2 .left))
+    (written .list-tree .ensures) (marked .mark-rules .ensures)
 
 pub hand-out-spec : {M : Type 1} → statement M
 hand-out-spec =
