@@ -7,7 +7,7 @@ use native.Mathlib.Omega.{arith}
 use mathlib.Core.List.{List, [], _∷_, _++_, append-assoc, append-nil}
 use mathlib.Core.Path.{_≡_, refl, ap, sym, _∙_}
 use lib.ListN.{length, getD, set, take, drop, length-append, take-append-drop}
-use lib.Seq.{sets, getD-take, take-suc}
+use lib.Seq.{sets, take-suc}
 use borrow.Author.Tests.{lt-ltb, le-ltb}
 use Rattle.grammar.specs.Words.{Grammar, R, RuleAt}
 use Rattle.grammar.specs.Tree.{Forest, nil, leaf, child, sentence, sentences, derivation, derivations}
@@ -18,7 +18,8 @@ use Rattle.grammar.proofs.Certificate.{symbolSize, wordSize, word-sizes}
 use Rattle.grammar.proofs.LayoutExact.{in-bounds}
 use Rattle.grammar.proofs.RuleNumbers.{rule-number}
 use Rattle.grammar.proofs.Unique.{least-unique, sizes-unique}
-use Rattle.tables.specs.Table.{tableLength, entry}
+use Rattle.tables.specs.Table.{entry}
+use Rattle.tables.proofs.TablePlaces.{entry-front}
 use Rattle.tables.proofs.RulesInView.{viewed-right}
 use Rattle.handout.specs.declared.lister.Lengths.{Lengths}
 use Rattle.handout.specs.Listing.{Known, sizeBy, sizesBy, rightOf, SymbolListed, of-terminal, of-nonterminal, SymbolsListed}
@@ -102,14 +103,11 @@ sizes-are g table [] = refl
 sizes-are g table (s ∷ w) = ap (λ x. sizeBy (g .N) table s + x) (sizes-are g table w)
 
 module _ {words starts table : List ℕ} {n : ℕ} {g : Grammar} (known : Known words starts table n g) where
-  front : (A j : ℕ) → A < g .N → j < 5 → entry (take (tableLength g) table) A j ≡ entry table A j
-  front A j lt l = getD-take (tableLength g) table (5 * A + j) 0 (omega arith)
-
   known-least : (A : ℕ) → A < g .N → Least plain g A (entry table A 0)
-  known-least A lt = rw (front A 0 lt (omega arith)) at (known .tabled .leasts A lt)
+  known-least A lt = rw (entry-front g table A 0 lt (omega arith)) at (known .tabled .leasts A lt)
 
   pub known-chosen : (A : ℕ) → A < g .N → Chosen plain g A (entry table A 1)
-  known-chosen A lt = rw (front A 1 lt (omega arith)) at (known .tabled .chosen A lt)
+  known-chosen A lt = rw (entry-front g table A 1 lt (omega arith)) at (known .tabled .chosen A lt)
 
   -- a rule's size is 1 plus those of its symbols as the lister reads them
   pub rule-size-by : {A k x : ℕ} → RuleSize plain g A k x → x ≡ 1 + sizesBy n table (rightOf words starts k)

@@ -6,7 +6,7 @@ use native.Mathlib.Omega.{arith}
 use mathlib.Core.List.{List, [], _∷_, _++_}
 use mathlib.Core.Path.{_≡_, refl, ap, sym, _∙_}
 use lib.ListN.{length, getD, set, take, drop, length-append, length-drop}
-use lib.Seq.{getD-take, take-all, length-take-le}
+use lib.Seq.{take-all, length-take-le}
 use Rattle.grammar.specs.Words.{Grammar, RuleAt}
 use Rattle.grammar.specs.Tree.{Gap, here, past-leaf, past-child, Open, root, down}
 use Rattle.grammar.specs.Measure.{plain}
@@ -14,7 +14,8 @@ use Rattle.grammar.specs.Least.{Context, ContextChoice, ChosenGap, ChosenOpen}
 use Rattle.grammar.proofs.LayoutExact.{in-bounds, rule-short}
 use Rattle.grammar.proofs.RuleNumbers.{rule-number, rule-left}
 use Rattle.grammar.proofs.Unique.{choice-unique, context-unique}
-use Rattle.tables.specs.Table.{tableLength, entry}
+use Rattle.tables.specs.Table.{entry}
+use Rattle.tables.proofs.TablePlaces.{entry-front}
 use Rattle.tables.proofs.RulesInView.{viewed-left, viewed-right}
 use Rattle.handout.specs.declared.lister.Lengths.{Lengths}
 use Rattle.handout.specs.Listing.{Known, sizesBy, rightOf, SymbolReady, Wrote}
@@ -40,15 +41,12 @@ module _ {words starts table : List ℕ} {n : ℕ} where
   symbols-listed {w} {i = i} turn h = rw (take-all i w h) at (turn .done)
 
 module _ {words starts table : List ℕ} {n : ℕ} {g : Grammar} (known : Known words starts table n g) where
-  front : (A j : ℕ) → A < g .N → j < 5 → entry (take (tableLength g) table) A j ≡ entry table A j
-  front A j lt l = getD-take (tableLength g) table (5 * A + j) 0 (omega arith)
-
   known-context : (A : ℕ) → A < g .N → Context plain g A (entry table A 2)
-  known-context A lt = rw (front A 2 lt (omega arith)) at (known .tabled .contexts A lt)
+  known-context A lt = rw (entry-front g table A 2 lt (omega arith)) at (known .tabled .contexts A lt)
 
   known-choice : (A : ℕ) → A < g .N → ¬ (A ≡ g .start) → ContextChoice plain g A (entry table A 3) (entry table A 4)
   known-choice A lt d =
-      rw (front A 3 lt (omega arith), front A 4 lt (omega arith)) at (known .tabled .choices A lt d)
+      rw (entry-front g table A 3 lt (omega arith), entry-front g table A 4 lt (omega arith)) at (known .tabled .choices A lt d)
 
   -- the step up from an open leaf A to its context rule, k with A at place i, whose left side is B
   pub record Up {A : ℕ} (x : Open g A) (k i B : ℕ) : Type 0 where

@@ -5,6 +5,8 @@ use native.Mathlib.Omega.{arith}
 use native.Mathlib.Decide.{decLt}
 use mathlib.Core.Path.{_≡_}
 use mathlib.Core.List.{List}
+use lib.ListN.{take}
+use lib.Seq.{getD-take}
 use Rattle.grammar.specs.Words.{Grammar, R}
 use Rattle.grammar.proofs.FigureCertificate.{Figures}
 use Rattle.tables.specs.Table.{tableLength, entry, totalEntry}
@@ -28,3 +30,10 @@ figuresOf g ws = record {
   place = λ A. entry ws A 4;
   total = totalEntry g ws;
 }
+
+-- the first 5N + R words stand in front, and so does each of these places
+pub entry-front : (g : Grammar) (ws : List ℕ) (A j : ℕ) → A < g .N → j < 5 → entry (take (tableLength g) ws) A j ≡ entry ws A j
+entry-front g ws A j lt l = getD-take (tableLength g) ws (5 * A + j) 0 (omega arith)
+
+pub total-front : (g : Grammar) (ws : List ℕ) (r : ℕ) → r < R g → totalEntry g (take (tableLength g) ws) r ≡ totalEntry g ws r
+total-front g ws r l = getD-take (tableLength g) ws (5 * g .N + r) 0 (omega arith)

@@ -10,7 +10,6 @@ use mathlib.Core.Path.{_≡_, refl, sym, _∙_}
 use mathlib.Core.Logic.{_⊎_, _↔_}
 use mathlib.Core.List.{List, [], _∷_}
 use lib.ListN.{length, take, length-take}
-use lib.Seq.{getD-take}
 use Rattle.grammar.specs.Words.{Grammar, RuleAt, R, InBounds}
 use Rattle.grammar.specs.Measure.{plain}
 use Rattle.grammar.specs.Refusals.{Accepted}
@@ -23,7 +22,7 @@ use Rattle.grammar.proofs.ContextCertificate.{Holds, othersSize}
 use Rattle.grammar.proofs.FigureCertificate.{AreFigures, FigureCertificate, figure-certificate}
 use Rattle.tables.specs.Table.{HasTable, tableLength, entry, totalEntry}
 use Rattle.tables.specs.Tests.{PlacePasses, leastIn, sizeIn, StartPasses, TablePasses}
-use Rattle.tables.proofs.TablePlaces.{figuresOf}
+use Rattle.tables.proofs.TablePlaces.{figuresOf, entry-front, total-front}
 
 -- the sizes of symbols are the figure of a nonterminal among them and the sizes beside it
 module _ (g : Grammar) (v : ℕ → ℕ) where
@@ -36,13 +35,6 @@ module _ (g : Grammar) (v : ℕ → ℕ) where
   size-parted (s ∷ w) (suc i) A h lt = omega (arith, size-parted w i A h lt)
 
 module _ (g : Grammar) (ok : InBounds g) (table : List ℕ) where
-  -- the first 5N + R words stand in front
-  five-front : (A j : ℕ) → A < g .N → j < 5 → entry (take (tableLength g) table) A j ≡ entry table A j
-  five-front A j lt l = getD-take (tableLength g) table (5 * A + j) 0 (omega arith)
-
-  total-front : (r : ℕ) → r < R g → totalEntry g (take (tableLength g) table) r ≡ totalEntry g table r
-  total-front r l = getD-take (tableLength g) table (5 * g .N + r) 0 (omega arith)
-
   -- the table is the grammar's, in the figures that all of its words give
   record Own : Type 0 where
     long : tableLength g ≤ length table
@@ -54,27 +46,27 @@ module _ (g : Grammar) (ok : InBounds g) (table : List ℕ) where
   has-own t = record {
     long = omega (arith, t .long, length-take (tableLength g) table);
     figures = record {
-      leasts = λ A lt. rw (five-front A 0 lt (omega arith)) at (t .leasts A lt);
-      chosens = λ A lt. rw (five-front A 1 lt (omega arith)) at (t .chosen A lt);
-      contexts = λ A lt. rw (five-front A 2 lt (omega arith)) at (t .contexts A lt);
-      choices = λ A lt d. rw (five-front A 3 lt (omega arith), five-front A 4 lt (omega arith)) at (t .choices A lt d);
-      totals = λ r l. rw (total-front r l) at (t .totals r l);
+      leasts = λ A lt. rw (entry-front g table A 0 lt (omega arith)) at (t .leasts A lt);
+      chosens = λ A lt. rw (entry-front g table A 1 lt (omega arith)) at (t .chosen A lt);
+      contexts = λ A lt. rw (entry-front g table A 2 lt (omega arith)) at (t .contexts A lt);
+      choices = λ A lt d. rw (entry-front g table A 3 lt (omega arith), entry-front g table A 4 lt (omega arith)) at (t .choices A lt d);
+      totals = λ r l. rw (total-front g table r l) at (t .totals r l);
     };
-    start-rule = sym (five-front (g .start) 3 (ok .start-below) (omega arith)) ∙ t .start-rule;
-    start-place = sym (five-front (g .start) 4 (ok .start-below) (omega arith)) ∙ t .start-place;
+    start-rule = sym (entry-front g table (g .start) 3 (ok .start-below) (omega arith)) ∙ t .start-rule;
+    start-place = sym (entry-front g table (g .start) 4 (ok .start-below) (omega arith)) ∙ t .start-place;
   }
 
   own-has : Own → HasTable g table
   own-has o = record {
     long = omega (arith, o .long, length-take (tableLength g) table);
-    leasts = λ A lt. rw (five-front A 0 lt (omega arith)) (o .figures .leasts A lt);
-    chosen = λ A lt. rw (five-front A 1 lt (omega arith)) (o .figures .chosens A lt);
-    contexts = λ A lt. rw (five-front A 2 lt (omega arith)) (o .figures .contexts A lt);
+    leasts = λ A lt. rw (entry-front g table A 0 lt (omega arith)) (o .figures .leasts A lt);
+    chosen = λ A lt. rw (entry-front g table A 1 lt (omega arith)) (o .figures .chosens A lt);
+    contexts = λ A lt. rw (entry-front g table A 2 lt (omega arith)) (o .figures .contexts A lt);
     choices = λ A lt d.
-        rw (five-front A 3 lt (omega arith), five-front A 4 lt (omega arith)) (o .figures .choices A lt d);
-    start-rule = five-front (g .start) 3 (ok .start-below) (omega arith) ∙ o .start-rule;
-    start-place = five-front (g .start) 4 (ok .start-below) (omega arith) ∙ o .start-place;
-    totals = λ r l. rw (total-front r l) (o .figures .totals r l);
+        rw (entry-front g table A 3 lt (omega arith), entry-front g table A 4 lt (omega arith)) (o .figures .choices A lt d);
+    start-rule = entry-front g table (g .start) 3 (ok .start-below) (omega arith) ∙ o .start-rule;
+    start-place = entry-front g table (g .start) 4 (ok .start-below) (omega arith) ∙ o .start-place;
+    totals = λ r l. rw (total-front g table r l) (o .figures .totals r l);
   }
 
   -- a grammar that has a table is accepted where no total is above 4,096
