@@ -1,9 +1,9 @@
 -- Rows tested by computing, and the others.
-pub mod RowsTested
 pub mod AnyBuffer
+pub mod RowsTested
 pub mod SampleNights
--- What the promises allow besides.
-pub mod NothingElse
+-- That the promises allow nothing else.
+pub mod RowsSettled
 -- The final statements.
 pub mod RowsHold
 pub mod Main

@@ -1,5 +1,5 @@
--- Every row of the table holds: by the test of rows where there is one, and by the samples of the layers below for 5 and 6, where a
--- nonterminal has no tree or is not reached, and for the two nights. Assumes nothing.
+-- Every row of the table holds: by the test of rows where there is one; by the samples of crates/tables for 5 and 6, where a
+-- nonterminal has no tree or is not reached; and by SampleNights for the two nights. Assumes nothing.
 use Prim.Native.Nat.{ℕ}
 use native.Mathlib.Omega.{arith}
 use mathlib.Core.Path.{refl}
@@ -10,11 +10,11 @@ use Rattle.grammar.proofs.Replay.{replay, replayed, stepped, complete?}
 use Rattle.grammar.proofs.Certificate.{symbolSize, wordSize}
 use Rattle.grammar.proofs.ContextCertificate.{othersSize}
 use Rattle.tables.proofs.ASampleOfTables.{no-tree-at-0, no-tree-at-1, unreached-at-1}
-use Rattle.samples.specs.Row.{Holds, HoldsAlone, All, no-more, _and_}
+use Rattle.samples.specs.Row.{Holds, Settled, All, no-more, _and_}
 use Rattle.samples.specs.Rows.{rows}
 use Rattle.samples.proofs.RowsTested.{Shown, all-hold}
 use Rattle.samples.proofs.AnyBuffer.{refused-of-any}
-use Rattle.samples.proofs.NothingElse.{all-alone}
+use Rattle.samples.proofs.RowsSettled.{all-settled}
 use Rattle.samples.proofs.SampleNights.{empty-night, loop-night}
 
 -- a line each, in the order of the table
@@ -48,6 +48,6 @@ shown =
 pub every-row-holds : All Holds rows
 every-row-holds = all-hold shown
 
--- and allows nothing else
-pub every-row-alone : All HoldsAlone rows
-every-row-alone = all-alone every-row-holds
+-- and is settled
+pub every-row-settled : All Settled rows
+every-row-settled = all-settled every-row-holds

@@ -1,8 +1,9 @@
--- Rows, tested by computing: a table by the one pass over it, a fault of the layout by judging the words, a replay by replaying, a
--- file by spelling its words. A row that passes holds. No test is made for 5 and 6, nor for a night: such rows do not pass.
+-- Rows, tested by computing: a table by the one pass over it, a fault of the layout by judging the words, a replay by replaying,
+-- a file by spelling its words. A row that passes holds. No test is made for 5 and 6, nor for a night: such rows do not pass.
 -- Assumes nothing.
 use Prim.Native.Nat.{ℕ, _≤_, _<_}
 use mathlib.Core.Path.{_≡_, refl, ap, sym}
+use native.Mathlib.Omega.{arith}
 use mathlib.Core.Bool.{Bool, true, false, _&&_, So, and-eq-true-iff, false≢true}
 use mathlib.Core.Logic.{_⊎_, inl, inr}
 use mathlib.Core.List.{List, [], _∷_}
@@ -24,7 +25,9 @@ use Rattle.tables.specs.Table.{IsTable, totalEntry}
 use Rattle.tables.specs.Promise as tables
 use Rattle.tables.proofs.TableComputed.{passes?, computed-table}
 use Rattle.handout.specs.Replay as handout
-use Rattle.samples.specs.Row.{Row, unpack-of, tables-of, replay-of, night-of, Result, writes, refuses, Holds, All, no-more, _and_}
+use Rattle.samples.specs.Row.{Row, unpack-of, tables-of, replay-of, refusal-of, night-of, Result, writes, refuses}
+use Rattle.samples.specs.Row.{Holds, All, no-more, _and_}
+use Rattle.samples.proofs.AnyBuffer.{refused-of-any}
 
 abbrev pub same? : List ℕ → List ℕ → Bool
 same? [] [] = true
@@ -70,6 +73,7 @@ abbrev pub row? : Row → Bool
 row? (unpack-of file r) = unpacked? file r
 row? (tables-of words r) = table? (layout words) r
 row? (replay-of list words r) = replay? (layout words) list r
+row? (refusal-of words number place) = table? (layout words) (refuses number place)
 row? (night-of words table hs) = false
 
 -- a grammar whose table has no total above 4,096 is accepted
@@ -95,6 +99,14 @@ table-sound words (writes table) (faults p) e t = absurd (false≢true t)
 table-sound words (refuses number place) (faults p) e t =
     let (four, at) = and-eq-true-iff (eqb number 4) (eqb place p) .0 t in
     λ before. rw (eqb-true number 4 four, eqb-true place p at) (tables.row-4 e)
+
+refused-sound : (words : List ℕ) (number place : ℕ) (j : Judged Grammar) → layout words ≡ j →
+    So (table? j (refuses number place)) → Holds (refusal-of words number place)
+refused-sound words number place (reads g) e t = absurd (false≢true t)
+refused-sound words number place (faults p) e t =
+    let (four, at) = and-eq-true-iff (eqb number 4) (eqb place p) .0 t in
+    let at-p : place ≡ p = eqb-true place p at in
+    rw (eqb-true number 4 four, at-p) (refused-of-any {one = []} (tables.row-4 e) refl (omega arith))
 
 replay-sound : (list words : List ℕ) (r : Result) (j : Judged Grammar) → layout words ≡ j → So (replay? j list r) →
     Holds (replay-of list words r)
@@ -124,6 +136,7 @@ pub row-sound : (row : Row) → So (row? row) → Holds row
 row-sound (unpack-of file r) t = unpacked-sound file r t
 row-sound (tables-of words r) t = table-sound words r (layout words) refl t
 row-sound (replay-of list words r) t = replay-sound list words r (layout words) refl t
+row-sound (refusal-of words number place) t = refused-sound words number place (layout words) refl t
 row-sound (night-of words table hs) t = absurd (false≢true t)
 
 -- so a list of rows holds where each passes or is shown to hold

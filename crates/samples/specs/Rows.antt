@@ -4,7 +4,7 @@
 use Prim.Native.Nat.{ℕ}
 use mathlib.Core.List.{List, [], _∷_}
 use Rattle.handout.specs.Night.{handout}
-use Rattle.samples.specs.Row.{Row, unpack-of, tables-of, replay-of, night-of, writes, refuses}
+use Rattle.samples.specs.Row.{Row, unpack-of, tables-of, replay-of, refusal-of, night-of, writes, refuses}
 
 -- "The deck grammar D: nonterminals 0 List, 1 Value, 2 Sign; terminals 3 comma, 4 number, 5 nan, 6 minus.
 -- Words: 3 4 0, 0 1 1, 0 3 1 3 0, 1 2 2 4, 1 1 5, 2 0, 2 1 6 (23 words)."
@@ -46,13 +46,13 @@ rows =
     tables-of loop-words (writes loop-table) ∷
     night-of loop-words loop-table (handout 0 (1 ∷ []) (0 ∷ 1 ∷ []) ∷ []) ∷
     -- "words 1 0 0": "5 at 0"
-    tables-of (1 ∷ 0 ∷ 0 ∷ []) (refuses 5 0) ∷
+    refusal-of (1 ∷ 0 ∷ 0 ∷ []) 5 0 ∷
     -- "words 2 0 0 0 0": "5 at 1"
-    tables-of (2 ∷ 0 ∷ 0 ∷ 0 ∷ 0 ∷ []) (refuses 5 1) ∷
+    refusal-of (2 ∷ 0 ∷ 0 ∷ 0 ∷ 0 ∷ []) 5 1 ∷
     -- "words 2 0 0 0 0 1 0": "6 at 1"
-    tables-of (2 ∷ 0 ∷ 0 ∷ 0 ∷ 0 ∷ 1 ∷ 0 ∷ []) (refuses 6 1) ∷
+    refusal-of (2 ∷ 0 ∷ 0 ∷ 0 ∷ 0 ∷ 1 ∷ 0 ∷ []) 6 1 ∷
     -- "words 3 4": "4 at 2"
-    tables-of (3 ∷ 4 ∷ []) (refuses 4 2) ∷
+    refusal-of (3 ∷ 4 ∷ []) 4 2 ∷
     -- "unpack 01 00 00": "zero words; tables of them: 4 at 0"
     unpack-of (1 ∷ 0 ∷ 0 ∷ []) (writes []) ∷
     tables-of [] (refuses 4 0) ∷

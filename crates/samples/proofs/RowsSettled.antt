@@ -1,6 +1,6 @@
 -- Where a row holds, the promises allow nothing else: each settles its outcome. For a night this says that whichever calls of
--- `next` come to Finished from clear marks, they have handed out the row's sentences and derivations in the row's order. A call that
--- answers Next hands out what it would into larger buffers, and there the row says what that is. Assumes nothing.
+-- `next` come to Finished from clear marks, they have handed out the row's sentences and derivations in the row's order. A call
+-- that answers Next hands out what it would into larger buffers, and there the row says what that is. Assumes nothing.
 use Prim.Native.Nat.{ℕ, _≤_}
 use native.Mathlib.Omega.{arith}
 use mathlib.Core.Path.{_≡_, refl, sym, ap, _∙_, subst}
@@ -9,31 +9,39 @@ use lib.ListN.{length, take, length-append}
 use Rattle.answers.specs.Buffers.{over}
 use Rattle.answers.proofs.WrittenFromFront.{written}
 use Rattle.packed.specs.Promise.{Unpacked}
+use Rattle.packed.specs.declared.FileAnswer.the-variants as file-answer
 use Rattle.packed.proofs.Settles.{unpack-settles}
 use Rattle.grammar.specs.Words.{Grammar, R, layout, reads}
 use Rattle.grammar.specs.Tree.{sentence, derivation}
 use Rattle.tables.specs.Promise.{Tables}
+use Rattle.tables.specs.declared.TableAnswer.the-variants as table-answer
 use Rattle.tables.proofs.FirstRows.{reads-unique}
 use Rattle.tables.proofs.TablesSettles.{tables-settles}
 use Rattle.handout.specs.Replay.{Replay}
+use Rattle.handout.specs.declared.ReplayAnswer.the-variants as replay-answer
 use Rattle.handout.specs.Next.{NextPromise, Lent, next, finished}
 use Rattle.handout.specs.Night.{Handout, handout, Night, clear, later, Over}
 use Rattle.handout.specs.declared.NextAnswer.the-variants.{Next, Finished}
 use Rattle.handout.proofs.ReplaySettles.{replay-settles}
 use Rattle.handout.proofs.NextSettles.{next-settles}
 use Rattle.handout.proofs.NextExact.{Handed, next-writes, next-finished}
-use Rattle.samples.specs.Row.{Row, unpack-of, tables-of, replay-of, night-of, Result, writes, refuses, Answers, Only}
-use Rattle.samples.specs.Row.{lent, HandsOut, Hands, ClearMarks, Holds, HoldsAlone, All, no-more, _and_}
+use Rattle.samples.specs.Row.{Row, unpack-of, tables-of, replay-of, refusal-of, night-of, Result, writes, refuses, Answers, AnswersOnly}
+use Rattle.samples.specs.Row.{lent, HandsOut, Hands, ClearMarks, Holds, Settled, All, no-more, _and_}
 
 -- any two outcomes that the promise allows of one buffer coincide
-abbrev Settled : {Answer : Type 0} → (List ℕ → Answer → List ℕ → Type 0) → Type 0
-Settled {Answer} promise = (before : List ℕ) (a a′ : Answer) (after after′ : List ℕ) → promise before a after →
+abbrev Settles : {Answer : Type 0} → (List ℕ → Answer → List ℕ → Type 0) → Type 0
+Settles {Answer} promise = (before : List ℕ) (a a′ : Answer) (after after′ : List ℕ) → promise before a after →
     promise before a′ after′ → (a ≡ a′) × (after ≡ after′)
 
 only : {Answer : Type 0} (promise : List ℕ → Answer → List ℕ → Type 0) (done : ℕ → Answer) (refused : ℕ → ℕ → Answer) →
-    Settled promise → (r : Result) → Answers promise done refused r → Only promise done refused r
+    Settles promise → (r : Result) → Answers promise done refused r → AnswersOnly promise done refused r
 only promise done refused settled (writes out) h = λ before room a after p. settled before a _ after _ p (h before room)
 only promise done refused settled (refuses number place) h = λ before a after p. settled before a _ after _ p (h before)
+
+tables-only : (words : List ℕ) (r : Result) → Holds (tables-of words r) → Settled (tables-of words r)
+tables-only words =
+    only (Tables words) table-answer.Done table-answer.Refused
+    (λ before a a′ after after′ p q. tables-settles words before p q)
 
 -- A CALL that answered Next, by what it says of the buffers (`h`), and what the row has for it. In buffers with room for both, the
 -- promise allows both, so they are the same.
@@ -143,15 +151,20 @@ module _ (words table : List ℕ) {g : Grammar} (e : layout words ≡ reads g) (
           absurd (let z : _≡_ {A = ℕ} 0 1 = cc in omega arith)
 
 -- THE LAW
-pub row-alone : (row : Row) → Holds row → HoldsAlone row
-row-alone (unpack-of file r) h = only (Unpacked file) _ _ (λ before a a′ after after′ p q. unpack-settles p q) r h
-row-alone (tables-of words r) h =
-    only (Tables words) _ _ (λ before a a′ after after′ p q. tables-settles words before p q) r h
-row-alone (replay-of list words r) h =
-    only (Replay words list) _ _ (λ before a a′ after after′ p q. replay-settles words list before p q) r h
-row-alone (night-of words table hs) (g, e, row) =
+pub row-settled : (row : Row) → Holds row → Settled row
+row-settled (unpack-of file r) h =
+    only (Unpacked file) file-answer.Done file-answer.Refused (λ before a a′ after after′ p q. unpack-settles p q) r h
+row-settled (tables-of words r) h = tables-only words r h
+row-settled (replay-of list words r) h =
+    only (Replay words list) replay-answer.Done replay-answer.Refused
+    (λ before a a′ after after′ p q. replay-settles words list before p q) r h
+row-settled (refusal-of words number place) h = (
+  tables-only words (refuses number place) (h .0),
+  λ table before a after p. next-settles words table before p (h .1 table before),
+)
+row-settled (night-of words table hs) (g, e, row) =
     λ rest handed o. night-only words (table ++ rest) e hs (λ marks c. row rest marks c) handed o
 
-pub all-alone : {rows : List Row} → All Holds rows → All HoldsAlone rows
-all-alone no-more = no-more
-all-alone (_and_ {row} h others) = row-alone row h and all-alone others
+pub all-settled : {rows : List Row} → All Holds rows → All Settled rows
+all-settled no-more = no-more
+all-settled (_and_ {row} h others) = row-settled row h and all-settled others
