@@ -2,14 +2,13 @@
 -- `next` gives it too. So a sample that is proved of a buffer of no words holds of all. Assumes nothing.
 use Prim.Native.Nat.{ℕ, _≤_}
 use native.Mathlib.Omega.{arith}
-use mathlib.Core.Path.{_≡_, refl}
-use mathlib.Core.List.{List, []}
+use mathlib.Core.Path.{_≡_}
+use mathlib.Core.List.{List}
 use Rattle.tables.specs.Promise as tables
 use Rattle.tables.specs.Promise.{Tables}
 use Rattle.tables.specs.declared.TableAnswer.{TableAnswer}
 use Rattle.tables.specs.declared.TableAnswer.the-variants as table-answer
 use Rattle.handout.specs.Next as next
-use Rattle.handout.specs.Next.{NextPromise, Lent}
 use Rattle.handout.specs.declared.NextAnswer.the-variants as next-answer
 use Rattle.samples.specs.Row.{refusal-of, Holds}
 

@@ -1,6 +1,5 @@
 -- Every row of the table holds: by the test of rows where there is one; by the samples of crates/tables for 5 and 6, where a
 -- nonterminal has no tree or is not reached; and by SampleNights for the two nights. Assumes nothing.
-use Prim.Native.Nat.{ℕ}
 use native.Mathlib.Omega.{arith}
 use mathlib.Core.Path.{refl}
 use mathlib.Core.Logic.{inl, inr}

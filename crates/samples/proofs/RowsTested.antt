@@ -1,21 +1,18 @@
 -- Rows, tested by computing: a table by the one pass over it, a fault of the layout by judging the words, a replay by replaying,
 -- a file by spelling its words. A row that passes holds. No test is made for 5 and 6, nor for a night: such rows do not pass.
 -- Assumes nothing.
-use Prim.Native.Nat.{ℕ, _≤_, _<_}
-use mathlib.Core.Path.{_≡_, refl, ap, sym}
+use Prim.Native.Nat.{ℕ, _≤_}
 use native.Mathlib.Omega.{arith}
+use mathlib.Core.Path.{_≡_, refl}
 use mathlib.Core.Bool.{Bool, true, false, _&&_, So, and-eq-true-iff, false≢true}
 use mathlib.Core.Logic.{_⊎_, inl, inr}
 use mathlib.Core.List.{List, [], _∷_}
 use lib.Dec.{leb, eqb}
 use lib.ListN.{length}
 use borrow.Author.Tests.{leb-true, eqb-true}
-use Rattle.answers.specs.Buffers.{over}
 use Rattle.packed.specs.File.{fileOf}
-use Rattle.packed.specs.Promise.{Unpacked}
 use Rattle.packed.proofs.RoundTrip.{unpack-fileOf}
 use Rattle.grammar.specs.Words.{Grammar, R, Judged, reads, faults, layout}
-use Rattle.grammar.specs.Derivation.{Derives, StopsAt}
 use Rattle.grammar.specs.Refusals.{Accepted}
 use Rattle.grammar.proofs.Dead.{open-reached}
 use Rattle.grammar.proofs.LayoutExact.{in-bounds}
@@ -115,7 +112,8 @@ replay-sound list words r (reads g) e t =
     let (short, ends) = and-eq-true-iff (leb (length list) 4096) (replayed? (replay g list) r) .0 t in
     go r (replay g list) refl (leb-true _ 4096 short) ends
   where
-    go : (r : Result) (z : Replayed) → replay g list ≡ z → length list ≤ 4096 → So (replayed? z r) → Holds (replay-of list words r)
+    go : (r : Result) (z : Replayed) → replay g list ≡ z → length list ≤ 4096 → So (replayed? z r) →
+        Holds (replay-of list words r)
     go (writes sentence) (derived t) h l ends =
         let is : sentence ≡ t = same sentence t ends in
         λ before room. rw is (handout.done e l (replay-exact g list t .0 h) (rw is at room))

@@ -1,11 +1,10 @@
 -- The two nights of document 01's rows. In each the sentence of rule 0 uses every rule, so that the next call answers Finished.
 -- Their trees are written out; that every nonterminal is opened by its chosen rule is read off the sample's table.
 -- Assumes nothing.
-use Prim.Native.Nat.{ℕ, zero, suc, _≤_, _<_}
+use Prim.Native.Nat.{ℕ, zero, suc, _<_}
 use native.Mathlib.Omega.{arith}
 use mathlib.Core.Path.{_≡_, refl}
 use mathlib.Core.List.{List, [], _∷_, _++_, List·Memᴰ·head, List·Memᴰ·tail}
-use lib.ListN.{length, getD}
 use lib.Seq.{take-at}
 use Rattle.grammar.specs.Words.{Grammar, R, RuleAt, layout, lefts, reads}
 use Rattle.grammar.specs.Tree.{Tree, Forest, node, nil, leaf, child, root, plug, sentence, derivation, _∈_}

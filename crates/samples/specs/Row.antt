@@ -85,8 +85,8 @@ Holds (night-of words table hs) =
     (g : Grammar) × (layout words ≡ reads g) ×
     ((rest marks : List ℕ) → ClearMarks g marks → Hands words (table ++ rest) marks hs)
 
--- A ROW IS SETTLED: any outcome that the promises allow for it is the row's. Of a night: whichever calls come to Finished, they have
--- handed out the row's (`Over` has the last one first).
+-- A ROW IS SETTLED: any outcome that the promises allow for it is the row's. Of a night: whichever calls come to Finished, they
+-- have handed out the row's (`Over` has the last one first).
 abbrev pub Settled : Row → Type 0
 Settled (unpack-of file r) = AnswersOnly (Unpacked file) file-answer.Done file-answer.Refused r
 Settled (tables-of words r) = AnswersOnly (Tables words) table-answer.Done table-answer.Refused r

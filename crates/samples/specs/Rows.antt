@@ -1,6 +1,7 @@
 -- Document 01, "Sample grammars": "Rows marked P are proved of the definitions themselves, all in a single table under one
--- statement". Its rows marked P, in its order and with its words; a row with two results stands twice, once for each. What a row
--- means is specs/Row. Assumes nothing.
+-- statement". Its rows marked P, in its order and with its words; a row with two results is two here, side by side. What a row
+-- means is specs/Row. Stricter than the document in two points: a night has its targets too, and that of 1 0 0 0 0 ends with
+-- Finished. Assumes nothing.
 use Prim.Native.Nat.{ℕ}
 use mathlib.Core.List.{List, [], _∷_}
 use Rattle.handout.specs.Night.{handout}
