@@ -9,21 +9,22 @@ a list of symbols. Words are read, and tables worked out, by tables.py beside it
 
 A case is a line. WORDS, LIST, TABLE and MARKS are numbers, and N*W stands for N times W.
 
-    replay THOUSANDS ROOM NAME : WORDS = LIST             the sentence buffer has 1000 * THOUSANDS + ROOM words
-    next TOKENS RULES NAME : WORDS = TABLE ; MARKS        the sentence buffer has TOKENS words, the derivation buffer RULES
-    whole night NAME : WORDS                              next again and again, from clear marks, with the table of `tables`
+    replay THOUSANDS ROOM, NAME : WORDS = LIST            the sentence buffer has 1000 * THOUSANDS + ROOM words
+    next TOKENS RULES, NAME : WORDS = TABLE ; MARKS       the sentence buffer has TOKENS words, the derivation buffer RULES
+    whole night, NAME : WORDS                             next again and again, from clear marks, with the table of `tables`
 
 The answers are
 
     replay .. : done LISTED kept            or    refused NUMBER PLACE kept
     next .. : next TARGET LISTED LISTED kept, marks MARKS    or    finished kept, ..    or    refused NUMBER PLACE kept, ..
-    whole night NAME :, and after it a line TARGET LISTED LISTED again for each sentence, and at the end finished or
+    whole night, NAME : and after it a line TARGET LISTED LISTED again for each sentence, and at the end finished or
         refused NUMBER PLACE, the number of sentences, and how many of 256 marks are then 1
 
 LISTED is the length of a sentence or a derivation and then its numbers, or, where there are more than 40, `sum` and what they
 are as digits to the base 31, modulo 1,000,003. `kept` says that what lies past the written lengths, or all of both buffers where
 nothing is written, has its old content. `again` says that the replay of the derivation gives the same sentence.
 """
+import functools
 import sys
 
 from tables import (D, Refused, chain, doubled, doublings, drawn, fullest, grammar, many_of, read, shuffled, spelled, sum_of,
@@ -35,6 +36,16 @@ UNBOUNDED = 10 ** 9
 
 
 # ---------------------------------------------------------------- the reference
+
+@functools.cache
+def table_of_words(words):
+    return table_of(list(words), UNBOUNDED)
+
+
+def its_table(words):
+    """The grammar's table, in as much room as it needs; or Refused 4, 5, 6 or 7. A night asks for it again and again."""
+    return table_of_words(tuple(words))
+
 
 class Grammar:
     """What the words and the table say, by the document's names. A tree is a rule's number and its symbols' trees; the tree of
@@ -59,10 +70,9 @@ class Grammar:
         tree = self.of_rule(number)
         leaf = self.rules[number][0]
         while leaf != self.start:
-            above = self.of_rule(self.context_rule[leaf])
-            above.symbols[self.place[leaf]] = tree
-            tree = above
-            leaf = self.rules[self.context_rule[leaf]][0]
+            above, place = self.context_rule[leaf], self.place[leaf]
+            leaf, symbols = self.rules[above]
+            tree = Use(above, [tree if i == place else self.opened(symbol) for i, symbol in enumerate(symbols)])
         return tree
 
 
@@ -94,7 +104,7 @@ def sentence_and_derivation(tree):
 def next_of(words, table, marks, tokens, rules):
     """The target, its sentence and derivation, and the marks afterwards; or None and the marks, where it is Finished; or
     Refused. The buffers have so many tokens and rules."""
-    its = table_of(words, UNBOUNDED)
+    its = its_table(words)
     if table[:len(its)] != its:
         raise Refused(8, 0)
     count = len(read(words)[2])
@@ -134,7 +144,7 @@ def replay_of(words, numbers, room):
 
 def derivation_of(words, rule=0):
     """The derivation of a rule's tree, by the table of the words."""
-    return sentence_and_derivation(Grammar(words, table_of(words, UNBOUNDED)).tree(rule))[1]
+    return sentence_and_derivation(Grammar(words, its_table(words)).tree(rule))[1]
 
 
 def doubling_list(top):
@@ -183,7 +193,7 @@ def replays():
     yield 'number is R, later', D, [0, 2, 6], 10
     yield 'number is 256', D, [0, 256, 4], 10
     yield 'number is 65535', D, [65535], 10
-    yield 'number is 65536 less than 2 too many', D, [0, 65534], 10
+    yield 'number is 65534', D, [0, 65534], 10
     yield 'first number of another nonterminal', D, [2, 4], 10
     yield 'second number of another nonterminal', D, [0, 0], 10
     yield 'R after the sentence is complete', D, [0, 3, 6], 10
@@ -218,11 +228,10 @@ def replays():
     yield 'longest sentence, one short', WIDE, [0] * 4095 + [1], 126976
     yield 'longest sentence, more room', WIDE, [0] * 4095 + [1], 131073
     yield 'longest sentence, room of 65,536 less', WIDE, [0] * 4095 + [1], 61441
-    yield '2,048 halves of 4,095 numbers', doubled(11), doubling_list(11), 2048
-    # 16 levels of S S are 32,767 rules: one level after the other on the left, closed by nothing
+    # 2,047 uses of S S make 2,048 S
     yield 'S S on the left, closed by nothing', AMBIGUOUS, [0] * 2047 + [2] * 2048, 0
     yield 'S S on the left, closed by tokens', AMBIGUOUS, [0] * 2047 + [1] * 2048, 2048
-    yield 'S S on the right, closed by tokens', AMBIGUOUS, [0, 1] * 2047 + [1], 2048
+    yield 'S S on the right, closed by tokens', AMBIGUOUS, [0, 1] * 19 + [1], 20
 
     # order: 4, 12, 11, 3
     yield '4 before 12', D[:-1], [0] * 4097, 0
@@ -243,11 +252,9 @@ def replays():
     yield 'though 5 at 1, into the treeless', TREELESS, [1], 10
     yield 'though 6 at 1', UNREACHED, [0], 10
     yield 'though 6 at 1, by the unreached rule', UNREACHED, [1], 10
-    yield 'though 7 at 0', doubled(11), doubling_list(11), 3000
-    yield 'though 7 at 0, one short', doubled(11), doubling_list(11), 2047
+    yield 'though 7 at 0', doubled(11), doubling_list(11), 2048
     yield 'though 7, by another rule', grammar(13, 1, 0, [(0, [13]), (0, [12])] + [(i + 1, [i, i]) for i in range(11, 0, -1)] +
                                                [(1, [13])]), [0], 10
-    yield 'X12 is 8,191 rules', doubled(12), doubling_list(12), 4096
     yield '256 rules, the last', grammar(1, 256, 0, [(0, [1 + i]) for i in range(256)]), [255], 10
     yield '256 rules, number 256', grammar(1, 256, 0, [(0, [1 + i]) for i in range(256)]), [256], 10
     yield '128 nonterminals', chain(shuffled), derivation_of(chain(shuffled)), 1
@@ -261,7 +268,7 @@ def changed(table, at, by=1):
 
 def nexts():
     """Name, words, table, marks, tokens and rules."""
-    its = table_of(D, UNBOUNDED)
+    its = its_table(D)
     clear = [0] * 6
 
     # document 01's suite of D, call by call, with exact room
@@ -271,13 +278,13 @@ def nexts():
     yield 'D, fourth call', D, its, [1, 1, 1, 1, 1, 0], 2, 3
     yield 'D, fifth call', D, its, [1] * 6, 2, 3
     one = [1, 0, 0, 0, 0]
-    yield 'one empty rule', one, table_of(one, UNBOUNDED), [0], 0, 1
-    yield 'one empty rule, used', one, table_of(one, UNBOUNDED), [1], 0, 0
+    yield 'one empty rule', one, its_table(one), [0], 0, 1
+    yield 'one empty rule, used', one, its_table(one), [1], 0, 0
     two = [1, 1, 0, 0, 1, 0, 0, 1, 1]
-    yield 'S gives S, S gives a', two, table_of(two, UNBOUNDED), [0, 0], 1, 2
-    yield 'S gives S, S gives a, second only', two, table_of(two, UNBOUNDED), [1, 0], 1, 1
-    yield 'S gives S, S gives a, first only', two, table_of(two, UNBOUNDED), [0, 1], 1, 2
-    yield 'S gives S, S gives a, both used', two, table_of(two, UNBOUNDED), [1, 1], 1, 2
+    yield 'S gives S, S gives a', two, its_table(two), [0, 0], 1, 2
+    yield 'S gives S, S gives a, second only', two, its_table(two), [1, 0], 1, 1
+    yield 'S gives S, S gives a, first only', two, its_table(two), [0, 1], 1, 2
+    yield 'S gives S, S gives a, both used', two, its_table(two), [1, 1], 1, 2
 
     # 3 and 10: rule 1 of D has 3 tokens and 4 numbers
     ones = [1, 0, 0, 1, 0, 0]
@@ -292,7 +299,7 @@ def nexts():
     yield '3 before 10', D, its, ones, 2, 3
     yield '3 before 10, no room', D, its, ones, 0, 0
     yield '3, more room for numbers', D, its, ones, 2, 100
-    yield '10 of an empty sentence', one, table_of(one, UNBOUNDED), [0], 0, 0
+    yield '10 of an empty sentence', one, its_table(one), [0], 0, 0
 
     # marks: anything but 0 is used and stays
     yield 'marks 7 and 255 are used', D, its, [7, 255, 2, 3, 128, 0], 9, 9
@@ -323,7 +330,9 @@ def nexts():
     yield '8, word 20 of rule 5, which is used', D, changed(its, 20), [0, 0, 0, 0, 0, 1], 9, 9
     yield '8, all zero', D, [0] * 21, clear, 9, 9
     yield '8, moved by one', D, [0] + its, clear, 9, 9
-    yield '8, of the grammar with another start', D, table_of(D[:2] + [0] + D[3:], UNBOUNDED)[5:] + its[:5], clear, 9, 9
+    # rule 5 is the sign's second: with one token more its total is another, with another token the table is the same
+    yield '8, of a grammar with a longer rule 5', D, its_table(D[:-3] + [2, 2, 6, 6]), clear, 9, 9
+    yield 'of a grammar with another token in rule 5', D, its_table(D[:-1] + [3]), clear, 9, 9
     tied = grammar(1, 2, 0, [(0, [1]), (0, [2])])
     yield 'tie, the lowest rule is chosen', tied, [2, 0, 0, 65535, 65535, 2, 2], [1, 0], 9, 9
     yield '8, tie, the higher rule chosen', tied, [2, 1, 0, 65535, 65535, 2, 2], [1, 0], 9, 9
@@ -343,12 +352,14 @@ def nexts():
     yield '5 at 0', NO_RULES, [0, 0, 0, 65535, 65535], [], 9, 9
     yield '5, second nonterminal without rules', [2, 0, 0, 0, 0], [1, 0, 0, 65535, 65535, 1, 0, 0, 0, 0, 1], [0], 9, 9
     yield '6', UNREACHED, [2, 0, 0, 65535, 65535, 3, 1, 0, 65535, 65535, 2, 3], [0, 0], 9, 9
-    yield '6, as large as can be', [2, 0, 0, 0, 0, 1, 0], [1, 0, 0, 65535, 65535, 1, 1] + [65535] * 3 + [1, 65535], [0, 0], 9, 9
+    no_context = [1, 0, 0, 65535, 65535, 1, 1, 65535, 65535, 65535, 1, 65535]
+    yield '6, with no context in the table', [2, 0, 0, 0, 0, 1, 0], no_context, [0, 0], 9, 9
     eleven = doubled(11)
-    sizes = [w for i in range(12) for w in [3 * 2 ** i - 1, 11 - i, 6143 - (3 * 2 ** i - 1), 10 - i, 0]]
-    sizes[-2:] = [65535, 65535]
-    yield '7, with its figures', eleven, sizes + [6143] * 12, [0] * 12, 5000, 5000
-    yield '7, figures cut to 4,097', eleven, [min(w, 4097) if w != 65535 else w for w in sizes] + [4097] * 12, [0] * 12, 5000, 5000
+    # Xi has size 3 * 2^i - 1 and rule 11 - i, and hangs on the rule before that
+    uncut = [word for i in range(12) for word in [3 * 2 ** i - 1, 11 - i, 6144 - 3 * 2 ** i, 10 - i, 0]]
+    uncut = uncut[:-2] + [65535, 65535] + [6143] * 12
+    yield '7, with its figures', eleven, uncut, [0] * 12, 5000, 5000
+    yield '7, with figures cut to 4,097', eleven, [min(word, 4097 if word < 65535 else word) for word in uncut], [0] * 12, 5000, 5000
     yield '7 at 0, four tokens', sum_of([10, 8, 6, 4, 2, 1], 4), [], [], 0, 0
     yield '7, the size looks small in 16 bits', wrapping(16), [], [], 0, 0
     yield '7, 32 of size 2048', many_of(2048, 32), [], [], 0, 0
@@ -377,20 +388,20 @@ def nexts():
 
     # larger ones
     ten = doubled(10)
-    yield 'X10, exact room', ten, table_of(ten, UNBOUNDED), [0] * 11, 1024, 2047
-    yield 'X10, 3', ten, table_of(ten, UNBOUNDED), [0] * 11, 1023, 2047
-    yield 'X10, 10', ten, table_of(ten, UNBOUNDED), [0] * 11, 1024, 2046
-    yield 'X10, only X0 unused', ten, table_of(ten, UNBOUNDED), [1] * 10 + [0], 1024, 2047
-    yield 'totals 4,096, exact room', SUM, table_of(SUM, UNBOUNDED), [0] * 12, 1369, 2727
-    yield 'totals 4,096, 3', SUM, table_of(SUM, UNBOUNDED), [0] * 12, 1368, 2727
-    yield 'totals 4,096, 10', SUM, table_of(SUM, UNBOUNDED), [0] * 12, 1369, 2726
+    yield 'X10, exact room', ten, its_table(ten), [0] * 11, 1024, 2047
+    yield 'X10, 3', ten, its_table(ten), [0] * 11, 1023, 2047
+    yield 'X10, 10', ten, its_table(ten), [0] * 11, 1024, 2046
+    yield 'X10, only X0 unused', ten, its_table(ten), [1] * 10 + [0], 1024, 2047
+    yield 'totals 4,096, exact room', SUM, its_table(SUM), [0] * 12, 1369, 2727
+    yield 'totals 4,096, 3', SUM, its_table(SUM), [0] * 12, 1368, 2727
+    yield 'totals 4,096, 10', SUM, its_table(SUM), [0] * 12, 1369, 2726
     links = chain(shuffled)
-    yield 'chain, only the last unused', links, table_of(links, UNBOUNDED), [1] * 127 + [0], 1, 128
-    yield 'chain, 10', links, table_of(links, UNBOUNDED), [0] * 128, 1, 127
+    yield 'chain, only the last unused', links, its_table(links), [1] * 127 + [0], 1, 128
+    yield 'chain, 10', links, its_table(links), [0] * 128, 1, 127
     equal = grammar(1, 1, 0, [(0, [1])] * 256)
-    yield '256 rules, exact marks', equal, table_of(equal, UNBOUNDED), [1] * 255 + [0], 1, 1
-    yield '256 rules, 9', equal, table_of(equal, UNBOUNDED), [1] * 255, 1, 1
-    yield '256 rules, surplus mark', equal, table_of(equal, UNBOUNDED), [1] * 256 + [0], 1, 1
+    yield '256 rules, exact marks', equal, its_table(equal), [1] * 255 + [0], 1, 1
+    yield '256 rules, 9', equal, its_table(equal), [1] * 255, 1, 1
+    yield '256 rules, surplus mark', equal, its_table(equal), [1] * 256 + [0], 1, 1
 
 
 DRAWN = 60
@@ -420,7 +431,6 @@ def nights():
         grammar(40, 1, 0, [rule for i in range(40) for rule in [(i, [40]), (i, [i + 1, 40] if i < 39 else [40, 40])]])
     yield '256 rules, all equal', grammar(1, 1, 0, [(0, [1])] * 256)
     yield '256 rules, each a token', grammar(1, 256, 0, [(0, [256 - i]) for i in range(256)])
-    yield 'fullest grammar', fullest(list)
     yield 'fullest grammar, shuffled', fullest(shuffled)
 
     # S is nonterminal 0, A 1, B 2, and N is a token
@@ -483,7 +493,7 @@ def night_answered(words):
     marks = [0] * MOST_RULES
     lines = []
     try:
-        table = table_of(words, UNBOUNDED)
+        table = its_table(words)
         while True:
             handed, marks = next_of(words, table, marks, UNBOUNDED, UNBOUNDED)
             if handed is None:
@@ -499,24 +509,25 @@ def night_answered(words):
 
 
 def texts():
-    """Each case's line and its answer."""
+    """Each case's line, and what works out its answer."""
     for name, words, numbers, room in replays():
-        head = f'replay {room // 1000} {room % 1000} {name} :'
-        yield f'{head} {spelled(words)} = {spelled(numbers)}', f'{head} {replay_answered(words, numbers, room)}'
+        head = f'replay {room // 1000} {room % 1000}, {name} :'
+        yield f'{head} {spelled(words)} = {spelled(numbers)}', \
+            lambda: f'{head} {replay_answered(words, numbers, room)}'
     for name, words, table, marks, tokens, rules in nexts():
-        head = f'next {tokens} {rules} {name} :'
+        head = f'next {tokens} {rules}, {name} :'
         yield f'{head} {spelled(words)} = {spelled(table)} ; {spelled(marks)}', \
-            f'{head} {next_answered(words, table, marks, tokens, rules)}'
+            lambda: f'{head} {next_answered(words, table, marks, tokens, rules)}'
     for name, words in nights():
-        head = f'whole night {name} :'
-        yield f'{head} {spelled(words)}', '\n'.join([head] + night_answered(words))
+        head = f'whole night, {name} :'
+        yield f'{head} {spelled(words)}', lambda: '\n'.join([head] + night_answered(words))
 
 
 def main(wanted):
     if wanted == 'stdin':
         print('# Written by tests/reference/handout.py, which says what a line means and has a remark on each case.')
     for case, answer in texts():
-        print((case if wanted == 'stdin' else answer).rstrip())
+        print((case if wanted == 'stdin' else answer()).rstrip())
 
 
 if __name__ == '__main__':
