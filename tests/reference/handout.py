@@ -359,7 +359,8 @@ def nexts():
     uncut = [word for i in range(12) for word in [3 * 2 ** i - 1, 11 - i, 6144 - 3 * 2 ** i, 10 - i, 0]]
     uncut = uncut[:-2] + [65535, 65535] + [6143] * 12
     yield '7, with its figures', eleven, uncut, [0] * 12, 5000, 5000
-    yield '7, with figures cut to 4,097', eleven, [min(word, 4097 if word < 65535 else word) for word in uncut], [0] * 12, 5000, 5000
+    cut = [word if word == 65535 else min(word, 4097) for word in uncut]
+    yield '7, with figures cut to 4,097', eleven, cut, [0] * 12, 5000, 5000
     yield '7 at 0, four tokens', sum_of([10, 8, 6, 4, 2, 1], 4), [], [], 0, 0
     yield '7, the size looks small in 16 bits', wrapping(16), [], [], 0, 0
     yield '7, 32 of size 2048', many_of(2048, 32), [], [], 0, 0
