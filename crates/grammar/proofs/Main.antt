@@ -7,6 +7,7 @@ use mathlib.Core.Path.{_≡_}
 use mathlib.Core.Logic.{_↔_}
 use mathlib.Core.List.{List, [], _∷_, _++_}
 use lib.ListN.{length, getD}
+use denote.Ref.{RefT, now}
 use Rattle.grammar.specs.Words.{Grammar, R, RuleAt, layout, reads, faults, FaultAt, InBounds, words}
 use Rattle.grammar.specs.Derivation.{Terminals, Steps, Start, Derives, StopsAt, L, Through, ProductionCoverage}
 use Rattle.grammar.specs.Tree.{Tree, sentence, derivation, Uses, StandsIn, _∈_}
@@ -14,12 +15,13 @@ use Rattle.grammar.specs.Measure.{Cost, plain, treeCost}
 use Rattle.grammar.specs.Least.{Least, Chosen, Context, ContextChoice, Total, TreeOf}
 use Rattle.grammar.specs.Refusals.{AllTrees, AllReached, Reached, NoTree, Unreached, Oversize, AllFit}
 use Rattle.grammar.specs.Judge.{answerOf}
-use Rattle.grammar.specs.Walk.{walkStart, stepAt}
+use Rattle.grammar.specs.Walk.{WalkPlace, walkStart, stepAt, walkAt, takenFrom}
 use Rattle.grammar.specs.Rules.{startsFrom, rightAt}
 use Rattle.grammar.specs.declared.layout.LayoutAnswer.{LayoutAnswer}
 use Rattle.grammar.specs.declared.layout.LayoutAnswer.the-variants as answer
-use Rattle.grammar.specs.declared.walk.Walk.{Walk}
 use Rattle.grammar.specs.declared.walk.Step.{Step}
+use Rattle.grammar.specs.declared.walk.RuleWalk.{RuleWalk}
+use Rattle.grammar.specs.declared.walk.Taken.{Taken}
 use Rattle.answers.specs.Buffers.{over}
 use Rattle.grammar.proofs.LayoutExact as Words
 use Rattle.grammar.proofs.FirstOffence as FirstOffence
@@ -54,7 +56,7 @@ use Rattle.grammar.proofs.JudgeExact as JudgeExact
 use Rattle.grammar.proofs.JudgeExact.{WordsOf}
 use Rattle.grammar.proofs.RulePlaces.{placeOf}
 use Rattle.grammar.proofs.WalkInOrder as WalkInOrder
-use Rattle.grammar.proofs.WalkInOrder.{HandsOut}
+use Rattle.grammar.proofs.WalkInOrder.{HandsOut, NextHandsOut}
 use Rattle.grammar.proofs.RulesByNumber as RulesByNumber
 use Rattle.grammar.proofs.CodeSettles as CodeSettles
 
@@ -211,10 +213,13 @@ judge-settles = CodeSettles.judge-settles
 pub word-settles : (ws : List ℕ) (i : ℕ) {r s : ℕ} → r ≡ getD ws i 0 → s ≡ getD ws i 0 → r ≡ s
 word-settles = CodeSettles.word-settles
 
-pub walk-start-settles : {r s : Walk} → r ≡ walkStart → s ≡ walkStart → r ≡ s
+pub walk-start-settles : (words : RefT (List ℕ)) {r s : RuleWalk} → r ≡ walkAt words walkStart → s ≡ walkAt words walkStart → r ≡ s
 walk-start-settles = CodeSettles.walk-start-settles
 
-pub walk-next-settles : (ws : List ℕ) (v : Walk) {r s : Step} → r ≡ stepAt ws v → s ≡ stepAt ws v → r ≡ s
+pub walk-step-settles : (ws : List ℕ) (v : WalkPlace) {r s : Step} → r ≡ stepAt ws v → s ≡ stepAt ws v → r ≡ s
+walk-step-settles = CodeSettles.walk-step-settles
+
+pub walk-next-settles : (w : RuleWalk) {r s : Taken} → r ≡ takenFrom w → s ≡ takenFrom w → r ≡ s
 walk-next-settles = CodeSettles.walk-next-settles
 
 pub find-settles : (ws before : List ℕ) {r s : List ℕ} →
@@ -232,10 +237,14 @@ pub judge-grammar-exact : (ws : List ℕ) {r : LayoutAnswer} → r ≡ answerOf 
     (r ≡ answer.Grammar N T S n) ↔ WordsOf ws N T S n
 judge-grammar-exact ws e = JudgeExact.judge-grammar-exact ws e
 
--- Over a grammar's words the walk hands out its rules in order and then ends; `find` notes the place of each, and `right` gives
--- the right side of the rule there.
+-- Over a grammar's words the walk hands out its rules in order and then ends, place by place and by `next`; `find` notes the place
+-- of each, and `right` gives the right side of the rule there.
 pub walk-in-order : (ws : List ℕ) (g : Grammar) → layout ws ≡ reads g → HandsOut ws 0 walkStart (g .rules)
 walk-in-order ws g e = WalkInOrder.walk-in-order ws g e
+
+pub walk-next-in-order : (words : RefT (List ℕ)) (g : Grammar) → layout (now words) ≡ reads g →
+    NextHandsOut 0 (walkAt words walkStart) (g .rules)
+walk-next-in-order words g e = WalkInOrder.walk-next-in-order words g e
 
 pub found-starts : (ws : List ℕ) (g : Grammar) → layout ws ≡ reads g → (before : List ℕ) (k : ℕ) → k < R g →
     getD (over (startsFrom 256 ws walkStart) before) k 0 ≡ placeOf g k

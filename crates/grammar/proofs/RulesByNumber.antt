@@ -11,10 +11,9 @@ use lib.ListN.{length, take, drop, getD, List·getD-append}
 use borrow.Author.Tests.{le-leb, lt-leb}
 use Rattle.answers.specs.Buffers.{over}
 use Rattle.grammar.specs.Words.{Grammar, R, RuleAt, reads, layout}
-use Rattle.grammar.specs.Walk.{countAt, walkStart, stepAt, ruleStep}
+use Rattle.grammar.specs.Walk.{WalkPlace, countAt, walkStart, stepAt, spanAt, pastRule}
 use Rattle.grammar.specs.Rules.{startsBy, startsFrom, rightAt}
 use Rattle.grammar.specs.declared.walk.RuleSpan.{RuleSpan}
-use Rattle.grammar.specs.declared.walk.Walk.{Walk}
 use Rattle.grammar.specs.declared.walk.Step.{Step}
 use Rattle.grammar.specs.declared.walk.Step.the-variants.{Rule, End}
 use Rattle.grammar.proofs.LayoutExact.{in-bounds, rule-at}
@@ -31,25 +30,25 @@ module _ (ws : List ℕ) (at : ℕ) where
   pub right-whole : at + 2 + countAt ws at ≤ length ws → rightAt ws at ≡ take (countAt ws at) (drop (at + 2) ws)
   right-whole h = rw (le-leb (at + 2 + countAt ws at) (length ws) h)
 
--- what a step that hands out a rule says of the walk before it and the walk after it
-pub record Handed (v u : Walk) : Type 0 where
+-- what a step that hands out a rule says of the walk's place before it and of the rule
+pub record Handed (v : WalkPlace) (s : RuleSpan) : Type 0 where
   pub room : v .number < 256
-  pub next : u .number ≡ v .number + 1
+  pub number : s .number ≡ v .number
 
-module _ (ws : List ℕ) (v : Walk) where
-  pub handed : {s : RuleSpan} {u : Walk} → stepAt ws v ≡ Rule s u → Handed v u
-  handed {s} {u} e = go (decLt (v .number) 256) (decLt (length ws) (v .at + 2 + countAt ws (v .at)))
+module _ (ws : List ℕ) (v : WalkPlace) where
+  pub handed : {s : RuleSpan} → stepAt ws v ≡ Rule s → Handed v s
+  handed {s} e = go (decLt (v .number) 256) (decLt (length ws) (v .at + 2 + countAt ws (v .at)))
     where
-      go : Dec (v .number < 256) → Dec (length ws < v .at + 2 + countAt ws (v .at)) → Handed v u
+      go : Dec (v .number < 256) → Dec (length ws < v .at + 2 + countAt ws (v .at)) → Handed v s
       go (yes h) (yes l) = absurd (let z : _≡_ {A = ℕ} 0 1 = cc (step-cut ws v h l) in omega arith)
       go (yes h) (no l) =
-          let same : Rule s u ≡ ruleStep ws v = sym e ∙ step-rule ws v h (omega arith) in
-          let q : u ≡ record { at = v .at + 2 + countAt ws (v .at); number = v .number + 1 } = cc in
-          record { room = h; next = ap (λ (x : Walk). x .number) q }
+          let same : Rule s ≡ Rule (spanAt ws v) = sym e ∙ step-rule ws v h (omega arith) in
+          let q : s ≡ spanAt ws v = cc in
+          record { room = h; number = ap (λ (x : RuleSpan). x .number) q }
       go (no h) l = absurd (let z : _≡_ {A = ℕ} 0 1 = cc (step-past-256 ws v (omega arith)) in omega arith)
 
-  pub starts-handed : (room : ℕ) {s : RuleSpan} {u : Walk} → stepAt ws v ≡ Rule s u →
-      startsFrom (suc room) ws v ≡ v .at ∷ startsFrom room ws u
+  pub starts-handed : (room : ℕ) {s : RuleSpan} → stepAt ws v ≡ Rule s →
+      startsFrom (suc room) ws v ≡ v .at ∷ startsFrom room ws (pastRule s)
   unfolding startsFrom
   starts-handed room e = ap (λ (t : Step). startsBy t (v .at) (λ u. startsFrom room ws u)) e
 

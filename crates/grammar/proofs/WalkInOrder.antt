@@ -1,6 +1,7 @@
 -- The walk hands out a grammar's rules in order, and then ends: before rule k it stands at that rule's place, where it reads the
--- left side and the count, and past the last rule the words end. Assumes nothing.
-use mathlib.Core.Path.{_≡_, refl, ap, sym, _∙_}
+-- left side and the count, and past the last rule the words end. Said of the places one after the other, which is how loops
+-- go, and of the walks that `next` hands on. Assumes nothing.
+use mathlib.Core.Path.{_≡_, refl, ap, sym, _∙_, subst⁻¹}
 use mathlib.Core.List.{List, [], _∷_}
 use mathlib.Core.Option.{some}
 use Prim.Native.Nat.{ℕ, zero, suc, _+_, _≤_, _<_}
@@ -8,10 +9,12 @@ use native.Mathlib.Omega.{arith}
 use native.Mathlib.Numerals.{add-one}
 use native.Mathlib.Decide.{decLt}
 use lib.ListN.{length, getD, getElem?, take, drop, length-drop}
+use denote.Ref.{RefT, now}
 use Rattle.grammar.specs.Words.{Grammar, Rule, _⟶_, R, RuleAt, reads, layout}
-use Rattle.grammar.specs.Walk.{walkStart, countAt, stepAt}
+use Rattle.grammar.specs.Walk.{WalkPlace, place, walkStart, countAt, stepAt, pastRule, pastStep, walkAt, takenFrom}
 use Rattle.grammar.specs.declared.walk.RuleSpan.{RuleSpan}
-use Rattle.grammar.specs.declared.walk.Walk.{Walk}
+use Rattle.grammar.specs.declared.walk.Step.{Step}
+use Rattle.grammar.specs.declared.walk.RuleWalk.{RuleWalk}
 use Rattle.grammar.specs.declared.walk.Step.the-variants as step
 use Rattle.grammar.proofs.LayoutExact.{in-bounds, rule-below, rule-at}
 use Rattle.grammar.proofs.RulePlaces as places
@@ -19,12 +22,12 @@ use Rattle.grammar.proofs.RulePlaces.{placeOf}
 use Rattle.grammar.proofs.WalkSteps.{step-past-256, step-cut, step-rule}
 
 -- the walk before rule k
-abbrev pub walkBefore : Grammar → ℕ → Walk
-walkBefore g k = record { at = placeOf g k; number = k }
+abbrev pub walkBefore : Grammar → ℕ → WalkPlace
+walkBefore g k = place (placeOf g k) k
 
 -- the span of rule k, A ⟶ w
 abbrev pub spanOf : Grammar → ℕ → ℕ → List ℕ → RuleSpan
-spanOf g k A w = record { number = k; left = A; count = length w; first = placeOf g k + 2 }
+spanOf g k A w = record { number = k; left = A; count = length w; first = placeOf g k + 2; end = placeOf g (k + 1) }
 
 -- the span says of the rule of number k, A ⟶ w, what stands in the words: its symbols are the words from `first` on
 pub record SpanOf (ws : List ℕ) (k A : ℕ) (w : List ℕ) (s : RuleSpan) : Type 0 where
@@ -34,19 +37,33 @@ pub record SpanOf (ws : List ℕ) (k A : ℕ) (w : List ℕ) (s : RuleSpan) : Ty
   pub symbols : take (s .count) (drop (s .first) ws) ≡ w
   pub each : (i : ℕ) → i < length w → getD ws (s .first + i) 0 ≡ getD w i 0
 
--- the walk v hands out these rules one after the other, numbered from k, and then ends
-pub data HandsOut (ws : List ℕ) : ℕ → Walk → List Rule → Type 0 where
-  ended : {k : ℕ} {v : Walk} → stepAt ws v ≡ step.End → HandsOut ws k v []
-  handed : {k A : ℕ} {w : List ℕ} {rs : List Rule} {v u : Walk} {s : RuleSpan} → stepAt ws v ≡ step.Rule s u →
-      SpanOf ws k A w s → HandsOut ws (k + 1) u rs → HandsOut ws k v ((A ⟶ w) ∷ rs)
+-- from the place v on these rules are handed out one after the other, numbered from k, and then no more
+pub data HandsOut (ws : List ℕ) : ℕ → WalkPlace → List Rule → Type 0 where
+  ended : {k : ℕ} {v : WalkPlace} → stepAt ws v ≡ step.End → HandsOut ws k v []
+  handed : {k A : ℕ} {w : List ℕ} {rs : List Rule} {v : WalkPlace} {s : RuleSpan} → stepAt ws v ≡ step.Rule s →
+      SpanOf ws k A w s → HandsOut ws (k + 1) (pastRule s) rs → HandsOut ws k v ((A ⟶ w) ∷ rs)
+
+-- `next` on the walk, and then on each walk that it hands on, hands out these rules, numbered from k, and then ends
+pub data NextHandsOut : ℕ → RuleWalk → List Rule → Type 0 where
+  ended : {k : ℕ} {v : RuleWalk} → takenFrom v .step ≡ step.End → NextHandsOut k v []
+  handed : {k A : ℕ} {w : List ℕ} {rs : List Rule} {v : RuleWalk} {s : RuleSpan} → takenFrom v .step ≡ step.Rule s →
+      SpanOf (now (v .words)) k A w s → NextHandsOut (k + 1) (takenFrom v .walk) rs → NextHandsOut k v ((A ⟶ w) ∷ rs)
+
+next-hands-out : (words : RefT (List ℕ)) {k : ℕ} {v : WalkPlace} {rs : List Rule} → HandsOut (now words) k v rs →
+    NextHandsOut k (walkAt words v) rs
+next-hands-out words {k} {v} (ended e) = ended e
+next-hands-out words {k} {v} (handed {rs = rs} {s = s} e span h) =
+    let past : pastStep (stepAt (now words) v) v ≡ pastRule s = ap (λ (t : Step). pastStep t v) e in
+    let later = subst⁻¹ (λ (x : WalkPlace). NextHandsOut (k + 1) (walkAt words x) rs) past (next-hands-out words h) in
+    handed e span later
 
 -- what a step from the walk before rule k found is that rule
-pub record Found (g : Grammar) (k : ℕ) (s : RuleSpan) (u : Walk) : Type 0 where
+pub record Found (g : Grammar) (k : ℕ) (s : RuleSpan) : Type 0 where
   pub A : ℕ
   pub w : List ℕ
   pub rule : RuleAt g k A w
   pub span : s ≡ spanOf g k A w
-  pub next : u ≡ walkBefore g (k + 1)
+  pub next : pastRule s ≡ walkBefore g (k + 1)
 
 -- what is left from k on begins with rule k
 next-left : (rs : List Rule) (k : ℕ) (ρ : Rule) (ss : List Rule) → drop k rs ≡ ρ ∷ ss →
@@ -61,7 +78,7 @@ module _ (ws : List ℕ) (g : Grammar) (e : layout ws ≡ reads g) where
   few = in-bounds ws e .at-most-256
 
   module _ (k A : ℕ) (w : List ℕ) (stands : getElem? (g .rules) k ≡ some (A ⟶ w)) where
-    steps : stepAt ws (walkBefore g k) ≡ step.Rule (spanOf g k A w) (walkBefore g (k + 1))
+    steps : stepAt ws (walkBefore g k) ≡ step.Rule (spanOf g k A w)
     steps =
         let low = rule-below (g .rules) k (A ⟶ w) stands in
         let counted = places.count-stands ws g e k A w stands in
@@ -79,9 +96,9 @@ module _ (ws : List ℕ) (g : Grammar) (e : layout ws ≡ reads g) where
       each = places.symbol-stands ws g e k A w stands;
     }
 
-  -- rule k is handed out by step k, and the walk then stands before rule k + 1
+  -- rule k is handed out by step k, and the walk then stands before rule k + 1, at the span's end
   pub walk-hands-rule : {k A : ℕ} {w : List ℕ} → RuleAt g k A w →
-      stepAt ws (walkBefore g k) ≡ step.Rule (spanOf g k A w) (walkBefore g (k + 1))
+      stepAt ws (walkBefore g k) ≡ step.Rule (spanOf g k A w)
   walk-hands-rule {k} {A} {w} r = steps k A w (r .stands)
 
   pub walk-span : {k A : ℕ} {w : List ℕ} → RuleAt g k A w → SpanOf ws k A w (spanOf g k A w)
@@ -96,14 +113,15 @@ module _ (ws : List ℕ) (g : Grammar) (e : layout ws ≡ reads g) where
       go (no h) = step-past-256 ws (walkBefore g (R g)) (omega arith)
 
   -- for one who goes by the step: what it found is rule k, and where it found none k is R
-  pub walk-found : (k : ℕ) {s : RuleSpan} {u : Walk} → k ≤ R g → stepAt ws (walkBefore g k) ≡ step.Rule s u → Found g k s u
-  walk-found k {s} {u} l q = go (decLt k (R g))
+  pub walk-found : (k : ℕ) {s : RuleSpan} → k ≤ R g → stepAt ws (walkBefore g k) ≡ step.Rule s → Found g k s
+  walk-found k {s} l q = go (decLt k (R g))
     where
-      go : Dec (k < R g) → Found g k s u
+      go : Dec (k < R g) → Found g k s
       go (yes h) =
           let r = rule-at (in-bounds ws e) k h in
           let f = sym q ∙ walk-hands-rule (r .2) in
-          record { A = r .0; w = r .1; rule = r .2; span = cc; next = cc }
+          let same : s ≡ spanOf g k (r .0) (r .1) = cc in
+          record { A = r .0; w = r .1; rule = r .2; span = same; next = ap pastRule same }
       go (no h) =
           let end : k ≡ R g = omega arith in
           let z : _≡_ {A = ℕ} 0 1 = cc walk-ends in
@@ -133,3 +151,8 @@ module _ (ws : List ℕ) (g : Grammar) (e : layout ws ≡ reads g) where
   -- from its start the walk hands out the grammar's rules in order, and then ends
   pub walk-in-order : HandsOut ws 0 walkStart (g .rules)
   walk-in-order = in-order (g .rules) 0 (omega arith) refl
+
+-- and so does `next`, from `start` on
+pub walk-next-in-order : (words : RefT (List ℕ)) (g : Grammar) → layout (now words) ≡ reads g →
+    NextHandsOut 0 (walkAt words walkStart) (g .rules)
+walk-next-in-order words g e = next-hands-out words (walk-in-order (now words) g e)

@@ -4,11 +4,10 @@ use mathlib.Core.List.{List}
 use Prim.Native.Nat.{ℕ, _+_, _≤_, _<_}
 use lib.ListN.{length}
 use borrow.Author.Tests.{lt-ltb, le-ltb, le-leb, lt-leb}
-use Rattle.grammar.specs.declared.walk.Walk.{Walk}
-use Rattle.grammar.specs.declared.walk.Step.the-variants.{End}
-use Rattle.grammar.specs.Walk.{countAt, ruleStep, stepAt}
+use Rattle.grammar.specs.declared.walk.Step.the-variants.{Rule, End}
+use Rattle.grammar.specs.Walk.{WalkPlace, countAt, spanAt, stepAt}
 
-module _ (ws : List ℕ) (v : Walk) where
+module _ (ws : List ℕ) (v : WalkPlace) where
   -- 256 rules went before
   pub step-past-256 : 256 ≤ v .number → stepAt ws v ≡ End
   step-past-256 h = rw (le-ltb (v .number) 256 h)
@@ -17,5 +16,5 @@ module _ (ws : List ℕ) (v : Walk) where
   pub step-cut : v .number < 256 → length ws < v .at + 2 + countAt ws (v .at) → stepAt ws v ≡ End
   step-cut h l = rw (lt-ltb (v .number) 256 h, lt-leb (v .at + 2 + countAt ws (v .at)) (length ws) l)
 
-  pub step-rule : v .number < 256 → v .at + 2 + countAt ws (v .at) ≤ length ws → stepAt ws v ≡ ruleStep ws v
+  pub step-rule : v .number < 256 → v .at + 2 + countAt ws (v .at) ≤ length ws → stepAt ws v ≡ Rule (spanAt ws v)
   step-rule h l = rw (lt-ltb (v .number) 256 h, le-leb (v .at + 2 + countAt ws (v .at)) (length ws) l)

@@ -6,18 +6,17 @@ use mathlib.Core.List.{List, [], _∷_}
 use Prim.Native.Nat.{ℕ, zero, suc, _+_}
 use lib.Dec.{leb}
 use lib.ListN.{length, take, drop}
-use Rattle.grammar.specs.Walk.{countAt, stepAt}
-use Rattle.grammar.specs.declared.walk.Walk.{Walk}
+use Rattle.grammar.specs.Walk.{WalkPlace, countAt, stepAt, pastRule}
 use Rattle.grammar.specs.declared.walk.Step.{Step}
 use Rattle.grammar.specs.declared.walk.Step.the-variants.{Rule, End}
 
 -- the index of the rule that a step hands out, and those after it
-abbrev pub startsBy : Step → ℕ → (Walk → List ℕ) → List ℕ
+abbrev pub startsBy : Step → ℕ → (WalkPlace → List ℕ) → List ℕ
 startsBy End at after = []
-startsBy (Rule span v) at after = at ∷ after v
+startsBy (Rule s) at after = at ∷ after (pastRule s)
 
--- the indexes of the rules that a walk hands out, so many at most
-unfoldable pub startsFrom : ℕ → List ℕ → Walk → List ℕ
+-- the indexes of the rules that a walk from a place on hands out, so many at most
+unfoldable pub startsFrom : ℕ → List ℕ → WalkPlace → List ℕ
 startsFrom zero ws v = []
 startsFrom (suc room) ws v = startsBy (stepAt ws v) (v .at) (λ u. startsFrom room ws u)
 

@@ -5,8 +5,9 @@ ghost use lib.ListN.{length};
 ghost use Rattle.answers.specs.Buffers.{over};
 ghost use Rattle.grammar.specs.Walk.{walkStart};
 ghost use Rattle.grammar.specs.Rules.{startsFrom, rightAt};
+use crate::walk::FIRST_RULE;
 use crate::walk::Step;
-use crate::walk::Walk;
+use crate::walk::rule_from;
 use crate::words::word;
 
 // The index of each rule that a walk hands out, in order, into the front of starts.
@@ -21,14 +22,15 @@ fn write_starts(words: &[u16], starts: &mut [usize])
     requires { ⌜ 256 ≤ length (now starts) ⌝ }
     ensures { λ _. ⌜ now (starts .exit) ≡ over (startsFrom 256 (now (words .entry)) walkStart) (now (starts .entry)) ⌝ }
 {
-    let mut walk = Walk::start();
+    let mut at = FIRST_RULE;
+    let mut number = 0;
     loop {
-        let Step::Rule(_, after) = walk.next(words) else {
+        let Step::Rule(span) = rule_from(words, at, number) else {
             return;
         };
-        let number = walk.number;
-        starts[number] = walk.at;
-        walk = after;
+        starts[number] = at;
+        at = span.end;
+        number += 1;
     }
 }
 

@@ -11,9 +11,8 @@ use Rattle.grammar.specs.Refusals.{Accepted}
 use Rattle.grammar.specs.Tree.{Tree, sentence, derivation}
 use Rattle.grammar.specs.Measure.{plain}
 use Rattle.grammar.specs.Least.{TreeOf}
-use Rattle.grammar.specs.Walk.{walkStart, stepAt}
+use Rattle.grammar.specs.Walk.{WalkPlace, walkStart, stepAt, pastRule}
 use Rattle.grammar.specs.Rules.{startsFrom}
-use Rattle.grammar.specs.declared.walk.Walk.{Walk}
 use Rattle.grammar.specs.declared.walk.RuleSpan.{RuleSpan}
 use Rattle.grammar.specs.declared.walk.Step.the-variants as step
 use Rattle.grammar.proofs.LayoutExact.{layout-exact, in-bounds}
@@ -98,22 +97,22 @@ module _ {words table : List ℕ} (room : List ℕ) (before : Lent) (long : 896 
       row-8 e a (not-own e a missing)
 
 -- THE RULES COUNTED: a walk stands before the rule of its number, and where it ends that is R
-abbrev pub Before : List ℕ → Walk → Type 0
+abbrev pub Before : List ℕ → WalkPlace → Type 0
 Before words v = (g : Grammar) → layout words ≡ reads g → (v ≡ walkBefore g (v .number)) × (v .number ≤ R g)
 
 pub before-first : (words : List ℕ) → Before words walkStart
 before-first words g e = (refl, omega arith)
 
-pub before-next : (words : List ℕ) (v : Walk) {s : RuleSpan} {u : Walk} → stepAt words v ≡ step.Rule s u → Before words v →
-    Before words u
-before-next words v {s} {u} q h g e =
+pub before-next : (words : List ℕ) (v : WalkPlace) {s : RuleSpan} → stepAt words v ≡ step.Rule s → Before words v →
+    Before words (pastRule s)
+before-next words v {s} q h g e =
     let (is, low) = h g e in
     let found = walk-found words g e (v .number) low (ap (stepAt words) (sym is) ∙ q) in
     let next = found .next in
-    let count : u .number ≡ v .number + 1 = ap (λ (x : Walk). x .number) next in
+    let count : s .number + 1 ≡ v .number + 1 = ap (λ (x : WalkPlace). x .number) next in
     (next ∙ ap (walkBefore g) (sym count), omega (arith, rule-number (found .rule)))
 
-pub before-end : (words : List ℕ) (v : Walk) → stepAt words v ≡ step.End → Before words v → (g : Grammar) → layout words ≡ reads g →
+pub before-end : (words : List ℕ) (v : WalkPlace) → stepAt words v ≡ step.End → Before words v → (g : Grammar) → layout words ≡ reads g →
     v .number ≡ R g
 before-end words v q h g e = let (is, low) = h g e in walk-done words g e (v .number) low (ap (stepAt words) (sym is) ∙ q)
 

@@ -15,8 +15,9 @@ use crate::marks::mark_rules;
 use crate::tree_lister::count_tree;
 use crate::tree_lister::list_tree;
 use grammar::rules;
+use grammar::walk::FIRST_RULE;
 use grammar::walk::Step;
-use grammar::walk::Walk;
+use grammar::walk::rule_from;
 use grammar::words::word;
 use tables::TableAnswer;
 
@@ -43,12 +44,14 @@ pub fn count_rules(words: &[u16]) -> usize
     ensures { λ r. ⌜ r ≤ 256 ⌝ }
     ensures { λ r. ⌜ ((g : Grammar) → layout (now (words .entry)) ≡ reads g → r ≡ R g) ⌝ }
 {
-    let mut walk = Walk::start();
+    let mut at = FIRST_RULE;
+    let mut number = 0;
     loop {
-        let Step::Rule(_, after) = walk.next(words) else {
-            return walk.number;
+        let Step::Rule(span) = rule_from(words, at, number) else {
+            return number;
         };
-        walk = after;
+        at = span.end;
+        number += 1;
     }
 }
 

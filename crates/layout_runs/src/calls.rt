@@ -1,8 +1,9 @@
 // The calls. Assumes nothing.
 use grammar::layout::LayoutAnswer;
+use grammar::walk::FIRST_RULE;
 use grammar::walk::RuleSpan;
 use grammar::walk::Step;
-use grammar::walk::Walk;
+use grammar::walk::rule_from;
 
 pub fn judge(words: &[u16]) {
     match grammar::layout::judge(words) {
@@ -28,13 +29,13 @@ pub fn judge(words: &[u16]) {
 // Prints the rules that a walk hands out, from a number on, and then how many it handed out in all. A grammar has at most
 // 256; a walk that hands out more is stopped.
 pub fn walk(words: &[u16], from: usize) {
-    let mut walk = Walk::start();
+    let mut at = FIRST_RULE;
     let mut handed = 0;
     while handed < 257 {
-        match walk.next(words) {
-            Step::Rule(span, next) => {
+        match rule_from(words, at, handed) {
+            Step::Rule(span) => {
+                at = span.end;
                 print_span(span, from);
-                walk = next;
             }
             Step::End => {
                 break;

@@ -1,7 +1,7 @@
 -- `grammar::rules::write_starts` meets its contract. The loop's invariant: what starts is to hold at the end is what it holds
 -- now, with the indexes of the rules to come written from the walk's number on. The measure is how many may still come.
 -- Assumes nothing.
-use mathlib.Core.Path.{_≡_, ap, sym, _∙_}
+use mathlib.Core.Path.{_≡_, refl, ap, sym, _∙_}
 use mathlib.Core.List.{List, _++_}
 use Prim.Native.Nat.{ℕ, suc, _+_, _-_, _<_}
 use native.Mathlib.Omega.{arith}
@@ -9,54 +9,49 @@ use borrow.Author.Needs.{needs}
 use lib.ListN.{length, take, drop, set}
 use Rattle.answers.specs.Buffers.{over}
 use Rattle.answers.proofs.WrittenFromFront.{store-first, none-left}
-use Rattle.grammar.specs.Walk.{walkStart, stepAt}
+use Rattle.grammar.specs.Walk.{WalkPlace, place, walkStart, stepAt}
 use Rattle.grammar.specs.Rules.{startsFrom}
 use Rattle.grammar.specs.declared.walk.RuleSpan.{RuleSpan}
-use Rattle.grammar.specs.declared.walk.Walk.{Walk}
 use Rattle.grammar.specs.declared.walk.Step.the-variants.{Rule, End}
 use Rattle.grammar.proofs.RulesByNumber.{Handed, handed, starts-handed, starts-ended}
 use Rattle.grammar.proofs.rules.write_starts.Statement.{statement}
 use Rattle.grammar.proofs.rules.write_starts.Tie as tie
 
--- starts once the walk v, before which n rules stand, has come to its end
-abbrev finally : List ℕ → List ℕ → ℕ → Walk → List ℕ
+-- starts once the walk from v on, before which n rules stand, has come to its end
+abbrev finally : List ℕ → List ℕ → ℕ → WalkPlace → List ℕ
 finally ws starts n v = take n starts ++ over (startsFrom (256 - n) ws v) (drop n starts)
 
-module _ (ws starts : List ℕ) (v : Walk) where
-  one-stored : {s : RuleSpan} {u : Walk} → stepAt ws v ≡ Rule s u → v .number < length starts →
-      finally ws starts (v .number) v ≡ finally ws (set starts (v .number) (v .at)) (u .number) u
-  one-stored {s} {u} e h =
+module _ (ws starts : List ℕ) (v : WalkPlace) where
+  one-stored : {s : RuleSpan} → stepAt ws v ≡ Rule s → v .number < length starts →
+      finally ws starts (v .number) v ≡
+      finally ws (set starts (v .number) (v .at)) (v .number + 1) (place (s .end) (v .number + 1))
+  one-stored {s} e h =
       let step = handed ws v e in
       let later = 256 - (v .number + 1) in
       let room : 256 - v .number ≡ suc later = omega arith in
       let first = ap (λ (r : ℕ). startsFrom r ws v) room ∙ starts-handed ws v later e in
       ap (λ (l : List ℕ). take (v .number) starts ++ over l (drop (v .number) starts)) first
-      ∙ store-first (v .at) (startsFrom later ws u) starts (v .number) h
-      ∙ ap (λ (n : ℕ). finally ws (set starts (v .number) (v .at)) n u) (sym (step .next))
+      ∙ store-first (v .at) (startsFrom later ws (place (s .end) (s .number + 1))) starts (v .number) h
+      ∙ ap (λ (n : ℕ). finally ws (set starts (v .number) (v .at)) (v .number + 1) (place (s .end) (n + 1))) (step .number)
 
   all-stored : stepAt ws v ≡ End → finally ws starts (v .number) v ≡ starts
   all-stored e = rw (starts-ended ws v (256 - v .number) e) (none-left starts (v .number))
 
 abbrev Inv-loop : tie.InvT-loop
-Inv-loop words starts₀ walk₀ starts walk =
-    (length starts ≡ length starts₀) × (over (startsFrom 256 words walkStart) starts₀ ≡ finally words starts (walk .number) walk)
+Inv-loop words starts₀ at₀ number₀ starts at number =
+    (length starts ≡ length starts₀) × (over (startsFrom 256 words walkStart) starts₀ ≡ finally words starts number (place at number))
 
 abbrev μ-loop : tie.MeasureT-loop
-μ-loop words starts₀ walk₀ starts walk = 256 - walk .number
-
-start-requires : tie.Need-start-requires Inv-loop μ-loop
-start-requires c κs = search needs
+μ-loop words starts₀ at₀ number₀ starts at number = 256 - number
 
 loop-holds : tie.Need-loop-holds Inv-loop μ-loop
-loop-holds c =
-    let a = c .before .before .before .args in
-    (search needs, ap (λ (v : Walk). finally (a .words .now) (a .starts .now) (v .number) v) (sym (c .start .ensures)))
+loop-holds c = (search needs, refl)
 
-next-requires : tie.Need-next-requires Inv-loop μ-loop
-next-requires c κs = search needs
+rule-from-requires : tie.Need-rule-from-requires Inv-loop μ-loop
+rule-from-requires c κs = search needs
 
-enum-known-after : tie.Need-enum-known-after Inv-loop μ-loop
-enum-known-after c = search needs
+enum-known-span : tie.Need-enum-known-span Inv-loop μ-loop
+enum-known-span c = search needs
 
 enum-told : tie.Need-enum-told Inv-loop μ-loop
 enum-told c = search needs
@@ -67,28 +62,29 @@ same-length c = search needs
 returns : tie.Need-returns Inv-loop μ-loop
 returns c =
     let l = c .before .before .before in
-    let a = l .before .before .before .before .args in
-    let last : stepAt (a .words .now) (l .loop .walk) ≡ End = sym (c .before .before .next .ensures) ∙ c .enum-told .given .1 in
-    sym (l .loop .inv .1 ∙ all-stored (a .words .now) (l .loop .starts) (l .loop .walk) last)
+    let a = l .before .before .before .args in
+    let v = place (l .loop .at) (l .loop .number) in
+    let last : stepAt (a .words .now) v ≡ End = sym (c .before .before .rule-from .ensures) ∙ c .enum-told .given .1 in
+    sym (l .loop .inv .1 ∙ all-stored (a .words .now) (l .loop .starts) v last)
 
 -- where a rule was handed out, and the walk goes on after it
 abbrev Told : Type 0
 Told = tie.After-known-told Inv-loop μ-loop
 
 abbrev wordsOf : Told → List ℕ
-wordsOf c = c .before .before .before .before .before .before .before .before .args .words .now
+wordsOf c = c .before .before .before .before .before .before .before .args .words .now
 
-abbrev walkOf : Told → Walk
-walkOf c = c .before .before .before .before .loop .walk
+abbrev placeOf : Told → WalkPlace
+placeOf c = place (c .before .before .before .before .loop .at) (c .before .before .before .before .loop .number)
 
-abbrev afterOf : Told → Walk
-afterOf c = c .before .after .given .0 .1 .0
+abbrev spanOf : Told → RuleSpan
+spanOf c = c .before .span .given .0 .0
 
-told : (c : Told) → stepAt (wordsOf c) (walkOf c) ≡ Rule (c .before .after .given .0 .0) (afterOf c)
-told c = sym (c .before .before .before .next .ensures) ∙ c .before .after .given .1
+told : (c : Told) → stepAt (wordsOf c) (placeOf c) ≡ Rule (spanOf c)
+told c = sym (c .before .before .before .rule-from .ensures) ∙ c .before .span .given .1
 
-step-told : (c : Told) → Handed (walkOf c) (afterOf c)
-step-told c = handed (wordsOf c) (walkOf c) (told c)
+step-told : (c : Told) → Handed (placeOf c) (spanOf c)
+step-told c = handed (wordsOf c) (placeOf c) (told c)
 
 mul-starts : tie.Need-mul-starts Inv-loop μ-loop
 mul-starts c =
@@ -100,6 +96,11 @@ slice-write-starts c =
     let step = step-told c in
     omega arith
 
+add-number : tie.Need-add-number Inv-loop μ-loop
+add-number c =
+    let step = step-told c in
+    record { fits = omega arith }
+
 loop-less : tie.Need-loop-less Inv-loop μ-loop
 loop-less c =
     let step = step-told c in
@@ -109,7 +110,7 @@ loop-again : tie.Need-loop-again Inv-loop μ-loop
 loop-again c =
     let l = c .before .before .before .before .loop in
     let step = step-told c in
-    (search needs, l .inv .1 ∙ one-stored (wordsOf c) (l .starts) (walkOf c) (told c) (omega arith))
+    (search needs, l .inv .1 ∙ one-stored (wordsOf c) (l .starts) (placeOf c) (told c) (omega arith))
 
 pub write-starts-spec : {M : Type 1} → statement M
 write-starts-spec =
@@ -117,14 +118,14 @@ write-starts-spec =
     (tie.spec
     Inv-loop
     μ-loop
-    start-requires
     loop-holds
-    next-requires
-    enum-known-after
+    rule-from-requires
+    enum-known-span
     enum-told
     same-length
     returns
     mul-starts
     slice-write-starts
+    add-number
     loop-less
     loop-again)

@@ -5,19 +5,16 @@ use Rattle.layout_runs.proofs.calls.walk.Statement.{statement}
 use Rattle.layout_runs.proofs.calls.walk.Tie as tie
 
 abbrev Inv-loop : tie.InvT-loop
-Inv-loop words from walk₀ handed₀ t7 walk handed = handed ≤ 257
+Inv-loop words from at₀ handed₀ t7 at handed = handed ≤ 257
 
 abbrev μ-loop : tie.MeasureT-loop
-μ-loop words from walk₀ handed₀ t7 walk handed = 257 - handed
-
-start-requires : tie.Need-start-requires Inv-loop μ-loop
-start-requires c κs = search needs
+μ-loop words from at₀ handed₀ t7 at handed = 257 - handed
 
 loop-holds : tie.Need-loop-holds Inv-loop μ-loop
 loop-holds c = search needs
 
-next-requires : tie.Need-next-requires Inv-loop μ-loop
-next-requires c κs = search needs
+rule-from-requires : tie.Need-rule-from-requires Inv-loop μ-loop
+rule-from-requires c κs = search needs
 
 enum-known-span : tie.Need-enum-known-span Inv-loop μ-loop
 enum-known-span c = search needs
@@ -55,9 +52,8 @@ walk-spec =
     (tie.spec
     Inv-loop
     μ-loop
-    start-requires
     loop-holds
-    next-requires
+    rule-from-requires
     enum-known-span
     print-span-requires
     enum-told
