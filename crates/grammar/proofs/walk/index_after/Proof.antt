@@ -25,7 +25,8 @@ returns c =
 returns-2 : tie.Need-returns-2
 returns-2 c =
     let a = c .before .before .before .before .args in
-    ap (λ (s : Step). pastStep s (place (a .at) (a .number)) .at) (sym (c .enum-told .given .1) ∙ c .before .before .step-at .ensures)
+    ap (λ (s : Step). pastStep s (place (a .at) (a .number)) .at) (sym (c .enum-told .given .1) ∙
+    c .before .before .step-at .ensures)
 
 pub index-after-spec : {M : Type 1} → statement M
 index-after-spec = tie.close (tie.spec step-at-requires enum-known-span enum-told returns returns-2)

@@ -1,4 +1,5 @@
--- `grammar::walk::number_after` meets its contract: the case of the step is that of the place after it; where a rule stands, its
+-- `grammar::walk::number_after` meets its contract: the case of the step is that of the place after it; where a rule stands,
+-- its
 -- number is the one given, below 256. Assumes nothing.
 use mathlib.Core.Path.{_≡_, ap, sym, _∙_}
 use Prim.Native.Nat.{ℕ, _+_}
@@ -19,7 +20,8 @@ enum-told c = search needs
 add-result : tie.Need-add-result
 add-result c =
     let a = c .before .before .before .before .args in
-    let step = handed (a .words .now) (place (a .at) (a .number)) (sym (c .before .before .step-at .ensures) ∙ c .enum-told .given .1) in
+    let step = handed (a .words .now) (place (a .at) (a .number)) (sym (c .before .before .step-at .ensures) ∙
+    c .enum-told .given .1) in
     record { fits = omega (arith, step .room) }
 
 enum-told-2 : tie.Need-enum-told-2
