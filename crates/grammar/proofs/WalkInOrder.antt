@@ -29,11 +29,12 @@ walkBefore g k = place (placeOf g k) k
 abbrev pub spanOf : Grammar → ℕ → ℕ → List ℕ → RuleSpan
 spanOf g k A w = record { number = k; left = A; count = length w; first = placeOf g k + 2; end = placeOf g (k + 1) }
 
--- the span says of the rule of number k, A ⟶ w, what stands in the words: its symbols are the words from `first` on
+-- the span says of the rule of number k, A ⟶ w, what stands in the words: its symbols are the words from `first` up to `end`
 pub record SpanOf (ws : List ℕ) (k A : ℕ) (w : List ℕ) (s : RuleSpan) : Type 0 where
   pub number : s .number ≡ k
   pub left : s .left ≡ A
   pub count : s .count ≡ length w
+  pub end : s .end ≡ s .first + s .count
   pub symbols : take (s .count) (drop (s .first) ws) ≡ w
   pub each : (i : ℕ) → i < length w → getD ws (s .first + i) 0 ≡ getD w i 0
 
@@ -92,6 +93,7 @@ module _ (ws : List ℕ) (g : Grammar) (e : layout ws ≡ reads g) where
       number = refl;
       left = refl;
       count = refl;
+      end = sym (places.next-place ws g e k A w stands);
       symbols = places.symbols-stand ws g e k A w stands;
       each = places.symbol-stands ws g e k A w stands;
     }
