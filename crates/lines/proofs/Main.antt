@@ -1,0 +1,65 @@
+-- The final statements of this crate, each by one citation. A reader who believes specs/ and reads this page is done.
+-- Assumes nothing.
+use Prim.Native.Nat.{ℕ, _+_, _/_, _%_, _≤_, _<_}
+use mathlib.Core.Path.{_≡_}
+use mathlib.Core.List.{List, [], _∷_, _++_}
+use lib.ListN.{length, take, drop}
+use Rattle.lines.specs.Digits.{digit, decimal}
+use Rattle.lines.specs.Lines.{suiteLine, sentenceLine, endLine, refusedLine}
+use Rattle.lines.specs.Room.{Written}
+use Rattle.lines.proofs.DigitsOfNumbers as Digits
+use Rattle.lines.proofs.WholeLines as Whole
+use Rattle.lines.proofs.LineLengths as Lengths
+use Rattle.lines.proofs.LineLengths.{Words}
+use Rattle.lines.proofs.Settles as Settles
+use Rattle.lines.proofs.Samples as Samples
+use Rattle.lines.proofs.Samples.{samples, Right}
+
+-- SETTLED. Any two outcomes that a promise allows for the same input coincide: the index answered, and the whole of the lent buffer.
+pub suite-settles : (N T R : ℕ) {buffer a b : List ℕ} {at p q : ℕ} → Written (suiteLine N T R) buffer at a p →
+    Written (suiteLine N T R) buffer at b q → (p ≡ q) × (a ≡ b)
+suite-settles = Settles.suite-settles
+
+pub sentence-settles : (target : ℕ) (tokens rules : List ℕ) {buffer a b : List ℕ} {at p q : ℕ} →
+    Written (sentenceLine target tokens rules) buffer at a p → Written (sentenceLine target tokens rules) buffer at b q →
+    (p ≡ q) × (a ≡ b)
+sentence-settles = Settles.sentence-settles
+
+pub end-settles : (count : ℕ) {buffer a b : List ℕ} {at p q : ℕ} → Written (endLine count) buffer at a p →
+    Written (endLine count) buffer at b q → (p ≡ q) × (a ≡ b)
+end-settles = Settles.end-settles
+
+pub refused-settles : (number place : ℕ) {buffer a b : List ℕ} {at p q : ℕ} → Written (refusedLine number place) buffer at a p →
+    Written (refusedLine number place) buffer at b q → (p ≡ q) × (a ≡ b)
+refused-settles = Settles.refused-settles
+
+-- DECIMAL. Below 10 a number is its digit; from 10 on it is the digits of a tenth of it, and its last digit.
+pub decimal-one : (n : ℕ) → n < 10 → decimal n ≡ digit n ∷ []
+decimal-one = Digits.decimal-one
+
+pub decimal-more : (n : ℕ) → 10 ≤ n → decimal n ≡ decimal (n / 10) ++ (digit (n % 10) ∷ [])
+decimal-more = Digits.decimal-more
+
+-- WHOLE. Where there is room the buffer holds the whole line and the index is past it; an index below the buffer's length says that
+-- there was room; a line written from 0 on is the buffer's front.
+pub with-room : {text buffer after : List ℕ} {at past : ℕ} → Written text buffer at after past →
+    at + length text ≤ length buffer →
+    (past ≡ at + length text) × (after ≡ take at buffer ++ text ++ drop (at + length text) buffer)
+with-room = Whole.with-room
+
+pub room-told : {text buffer after : List ℕ} {at past : ℕ} → Written text buffer at after past → past < length buffer →
+    at + length text ≤ length buffer
+room-told = Whole.room-told
+
+pub front : {text buffer after : List ℕ} {past : ℕ} → Written text buffer 0 after past → length text ≤ length buffer →
+    take past after ≡ text
+front = Whole.front
+
+-- LENGTH. 24,594 octets are room enough for a sentence's line.
+pub sentence-few : (target : ℕ) (tokens rules : List ℕ) → target < 65536 → Words tokens → Words rules →
+    length tokens + length rules ≤ 4096 → length (sentenceLine target tokens rules) ≤ 24594
+sentence-few = Lengths.sentence-few
+
+-- SAMPLES of document 01: the lines printed for D, and `refused 1 0`.
+pub samples-right : Right samples
+samples-right = Samples.samples-right
