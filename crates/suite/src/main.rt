@@ -2,8 +2,10 @@
 // hands out from clear marks, until every rule has been used; a refused file gives one line. What a line is stands in crates/lines,
 // and what is in it is settled by the calls. Lines are gathered, and written where the next one might not fit. A read that fails is
 // the end of the input; after a write that fails nothing more is written.
-ghost use Prim.Native.Nat.{_+_, _≤_};
+ghost use Prim.Native.Nat.{_≤_};
 ghost use lib.ListN.{length};
+ghost use Rattle.handout.specs.Next.{Lent};
+ghost use Rattle.suite.specs.Answered.{mostLine, Ready, Answered, PrintedNext};
 use grammar::layout;
 use grammar::layout::LayoutAnswer;
 use handout::NextAnswer;
@@ -30,7 +32,7 @@ const MOST_LINE: usize = 24594;
 struct Printed {
     count: usize,
     waiting: usize,
-    is_over: bool,
+    over: bool,
 }
 
 fn main() {
@@ -40,7 +42,9 @@ fn main() {
     of_file(&file[..length], &mut text);
 }
 
-fn of_file(file: &[u8], text: &mut [u8]) {
+fn of_file(file: &[u8], text: &mut [u8])
+    requires { ⌜ mostLine ≤ length (now text) ⌝ }
+{
     let mut words = [0u16; MOST_WORDS];
     match packed::unpack(file, &mut words) {
         FileAnswer::Done(count) => of_words(&words[..count], text),
@@ -48,7 +52,9 @@ fn of_file(file: &[u8], text: &mut [u8]) {
     }
 }
 
-fn of_words(words: &[u16], text: &mut [u8]) {
+fn of_words(words: &[u16], text: &mut [u8])
+    requires { ⌜ mostLine ≤ length (now text) ⌝ }
+{
     let mut table = [0u16; MOST_TABLE];
     match tables::tables(words, &mut table) {
         TableAnswer::Done(_) => of_table(words, &table, text),
@@ -56,7 +62,9 @@ fn of_words(words: &[u16], text: &mut [u8]) {
     }
 }
 
-fn of_table(words: &[u16], table: &[u16], text: &mut [u8]) {
+fn of_table(words: &[u16], table: &[u16], text: &mut [u8])
+    requires { ⌜ mostLine ≤ length (now text) ⌝ }
+{
     match layout::judge(words) {
         LayoutAnswer::Grammar {
             nonterminals,
@@ -74,25 +82,12 @@ fn of_table(words: &[u16], table: &[u16], text: &mut [u8]) {
 // The one line of a refused file.
 fn print_refused(number: u16, place: usize, text: &mut [u8]) {
     let length = lines::refused(number, place, text, 0);
-    print_last(text, length, 0);
-}
-
-// Writes what waits, and nothing more comes.
-fn print_last(text: &[u8], waiting: usize, count: usize) -> Printed
-    requires { ⌜ waiting ≤ length (now text) ⌝ }
-    ensures { λ r. ⌜ (r .waiting ≤ length (now (text .entry))) × (r .count ≤ count) ⌝ }
-{
-    io::write_all(libc::STDOUT_FILENO, &text[..waiting]);
-    Printed {
-        count,
-        waiting: 0,
-        is_over: true,
-    }
+    print(text, length);
 }
 
 // Hands out until it is over: at most one sentence for each rule (`at-most-R` of crates/handout), and then the end.
 fn print_sentences(words: &[u16], table: &[u16], text: &mut [u8], waiting: usize)
-    requires { ⌜ waiting ≤ length (now text) ⌝ }
+    requires { ⌜ (waiting ≤ length (now text)) × (mostLine ≤ length (now text)) ⌝ }
 {
     let mut marks = [0u8; MOST_RULES];
     let mut sentence = [0u16; MOST_NUMBERS];
@@ -100,10 +95,10 @@ fn print_sentences(words: &[u16], table: &[u16], text: &mut [u8], waiting: usize
     let mut so = Printed {
         count: 0,
         waiting,
-        is_over: false,
+        over: false,
     };
     let mut turn: usize = 0;
-    while turn <= MOST_RULES && !so.is_over {
+    while turn <= MOST_RULES && !so.over {
         so = print_next(
             words,
             table,
@@ -115,9 +110,10 @@ fn print_sentences(words: &[u16], table: &[u16], text: &mut [u8], waiting: usize
         );
         turn += 1;
     }
+    print(text, so.waiting);
 }
 
-// One call of `next`, and the line for what it answers.
+// The next line, once there is room for it; none after a write that failed.
 fn print_next(
     words: &[u16],
     table: &[u16],
@@ -127,53 +123,84 @@ fn print_next(
     text: &mut [u8],
     so: Printed,
 ) -> Printed
-    requires { ⌜ (so .waiting ≤ length (now text)) × (so .count ≤ 256) ⌝ }
-    ensures { λ r. ⌜ (r .waiting ≤ length (now (text .exit))) × (r .count ≤ so .count + 1) ⌝ }
+    requires { ⌜ (so .waiting ≤ length (now text)) × (so .count ≤ 256) × (mostLine ≤ length (now text)) ⌝ }
+    ensures { λ r. ⌜ PrintedNext (now (words .entry)) (now (table .entry))
+        (record { marks = now (marks .entry); tokens = now (sentence .entry); rules = now (derivation .entry) })
+        (record { marks = now (marks .exit); tokens = now (sentence .exit); rules = now (derivation .exit) })
+        (now (text .entry)) (now (text .exit)) so r ⌝ }
 {
     let ready = with_room(text, so);
-    if ready.is_over {
+    if ready.over {
         return ready;
     }
+    answered(words, table, marks, sentence, derivation, text, ready)
+}
+
+// One call of `next`, and the line for what it answers behind what waits.
+fn answered(
+    words: &[u16],
+    table: &[u16],
+    marks: &mut [u8],
+    sentence: &mut [u16],
+    derivation: &mut [u16],
+    text: &mut [u8],
+    so: Printed,
+) -> Printed
+    requires { ⌜ so .count ≤ 256 ⌝ }
+    ensures { λ r. ⌜ Answered (now (words .entry)) (now (table .entry))
+        (record { marks = now (marks .entry); tokens = now (sentence .entry); rules = now (derivation .entry) })
+        (record { marks = now (marks .exit); tokens = now (sentence .exit); rules = now (derivation .exit) })
+        (now (text .entry)) (now (text .exit)) so r ⌝ }
+{
     match handout::next(words, table, marks, sentence, derivation) {
         NextAnswer::Next {
             target,
             tokens,
             rules,
         } => Printed {
-            count: ready.count + 1,
+            count: so.count + 1,
             waiting: lines::sentence(
                 target,
                 &sentence[..tokens],
                 &derivation[..rules],
                 text,
-                ready.waiting,
+                so.waiting,
             ),
-            is_over: false,
+            over: false,
         },
-        NextAnswer::Finished => {
-            let length = lines::end(ready.count, text, ready.waiting);
-            print_last(text, length, ready.count)
-        }
-        NextAnswer::Refused { number, place } => {
-            let length = lines::refused(number, place, text, ready.waiting);
-            print_last(text, length, ready.count)
-        }
+        NextAnswer::Finished => Printed {
+            count: so.count,
+            waiting: lines::end(so.count, text, so.waiting),
+            over: true,
+        },
+        NextAnswer::Refused { number, place } => Printed {
+            count: so.count,
+            waiting: lines::refused(number, place, text, so.waiting),
+            over: true,
+        },
     }
 }
 
-// Writes what waits, where a line might not fit behind it.
+// Writes what waits, where the longest line would not fit behind it.
 fn with_room(text: &[u8], so: Printed) -> Printed
-    requires { ⌜ so .waiting ≤ length (now text) ⌝ }
-    ensures { λ r. ⌜ (r .waiting ≤ length (now (text .entry))) × (r .count ≤ so .count) ⌝ }
+    requires { ⌜ (so .waiting ≤ length (now text)) × (mostLine ≤ length (now text)) ⌝ }
+    ensures { λ r. ⌜ Ready (length (now (text .entry))) so r ⌝ }
 {
     let waiting = so.waiting;
     if MOST_LINE <= text.len() - waiting {
         return so;
     }
-    let is_written = io::write_all(libc::STDOUT_FILENO, &text[..waiting]);
+    let is_written = print(text, waiting);
     Printed {
         count: so.count,
         waiting: 0,
-        is_over: !is_written,
+        over: !is_written,
     }
+}
+
+// Writes the first octets of the text, and answers whether that succeeded.
+fn print(text: &[u8], count: usize) -> bool
+    requires { ⌜ count ≤ length (now text) ⌝ }
+{
+    io::write_all(libc::STDOUT_FILENO, &text[..count])
 }

@@ -1,19 +1,13 @@
--- `suite::print_next` meets its contract. Assumes nothing.
-use mathlib.Core.Path.{sym}
+-- `suite::answered` meets its contract: each arm writes the line of its answer. Assumes nothing.
+use mathlib.Core.Path.{refl, sym}
 use lib.Seq.{length-take-le}
+use Rattle.handout.specs.declared.NextAnswer.the-variants.{Next, Finished, Refused}
 use Rattle.handout.proofs.NextExact.{next-writes}
 use borrow.Author.Needs.{needs}
-use Rattle.suite.proofs.print_next.Statement.{statement}
-use Rattle.suite.proofs.print_next.Tie as tie
-
-with-room-requires : tie.Need-with-room-requires
-with-room-requires c κs = search needs
-
-same-length : tie.Need-same-length
-same-length c = search needs
-
-returns : tie.Need-returns
-returns c = search needs
+use Rattle.suite.proofs.answered.Statement.{statement}
+use Rattle.suite.proofs.answered.Tie as tie
+use Rattle.suite.proofs.answered.Reads as reads
+use Rattle.suite.proofs.answered.Lts as lts
 
 next-requires : tie.Need-next-requires
 next-requires c κs = search needs
@@ -21,28 +15,36 @@ next-requires c κs = search needs
 enum-known-target : tie.Need-enum-known-target
 enum-known-target c = search needs
 
-add-t27 : tie.Need-add-t27
-add-t27 c = search needs
+add-t21 : tie.Need-add-t21
+add-t21 c = search needs
 
 slice-reshare-prefix-sentence : tie.Need-slice-reshare-prefix-sentence
 slice-reshare-prefix-sentence c =
-    let handed = next-writes (c .before .before .before .before .before .before .before .before .before .before .next .ensures) _ _ _ (c .before .before .target .given .1) .2 in
-    handed .tokens .within
+    let known = c .before .before in
+    let handed = next-writes (known .before .before .before .before .before .before .before .before .next .ensures) _ _ _
+    (known .target .given .1) in
+    handed .2 .tokens .within
 
 slice-aggregate-sentence : tie.Need-slice-aggregate-sentence
 slice-aggregate-sentence c =
-    let handed = next-writes (c .before .before .before .before .before .before .before .before .before .before .before .next .ensures) _ _ _ (c .before .before .before .target .given .1) .2 in
-    sym (length-take-le _ _ (handed .tokens .within))
+    let known = c .before .before .before in
+    let handed = next-writes (known .before .before .before .before .before .before .before .before .next .ensures) _ _ _
+    (known .target .given .1) in
+    sym (length-take-le _ _ (handed .2 .tokens .within))
 
 slice-reshare-prefix-sentence-2 : tie.Need-slice-reshare-prefix-sentence-2
 slice-reshare-prefix-sentence-2 c =
-    let handed = next-writes (c .before .before .before .before .before .before .before .before .before .before .before .next .ensures) _ _ _ (c .before .before .before .target .given .1) .2 in
-    handed .rules .within
+    let known = c .before .before .before in
+    let handed = next-writes (known .before .before .before .before .before .before .before .before .next .ensures) _ _ _
+    (known .target .given .1) in
+    handed .2 .rules .within
 
 slice-aggregate-sentence-2 : tie.Need-slice-aggregate-sentence-2
 slice-aggregate-sentence-2 c =
-    let handed = next-writes (c .before .before .before .before .before .before .before .before .before .before .before .before .next .ensures) _ _ _ (c .before .before .before .before .target .given .1) .2 in
-    sym (length-take-le _ _ (handed .rules .within))
+    let known = c .before .before .before .before in
+    let handed = next-writes (known .before .before .before .before .before .before .before .before .next .ensures) _ _ _
+    (known .target .given .1) in
+    sym (length-take-le _ _ (handed .2 .rules .within))
 
 sentence-requires : tie.Need-sentence-requires
 sentence-requires c κs = search needs
@@ -53,17 +55,14 @@ enum-told c = search needs
 end-requires : tie.Need-end-requires
 end-requires c κs = search needs
 
-print-last-requires : tie.Need-print-last-requires
-print-last-requires c κs = search needs
-
 enum-known-number : tie.Need-enum-known-number
 enum-known-number c = search needs
 
 refused-requires : tie.Need-refused-requires
 refused-requires c κs = search needs
 
-print-last-requires-2 : tie.Need-print-last-requires-2
-print-last-requires-2 c κs = search needs
+same-length : tie.Need-same-length
+same-length c = search needs
 
 same-length-2 : tie.Need-same-length-2
 same-length-2 c = search needs
@@ -74,11 +73,21 @@ same-length-3 c = search needs
 same-length-4 : tie.Need-same-length-4
 same-length-4 c = search needs
 
+returns : tie.Need-returns
+returns c =
+    let known = c .before .before .before .before .before .before .before .before in
+    let told = known .target .given in
+    let promised = known .before .before .before .before .before .before .before .before .next .ensures in
+    record {
+      answer = Next (told .0 .0) (told .0 .1 .0) (told .0 .1 .1 .0);
+      promise = rw (told .1) at promised;
+      line = c .before .before .sentence2 .ensures;
+      count = refl;
+      last = refl;
+    }
+
 same-length-5 : tie.Need-same-length-5
 same-length-5 c = search needs
-
-returns-2 : tie.Need-returns-2
-returns-2 c = search needs
 
 same-length-6 : tie.Need-same-length-6
 same-length-6 c = search needs
@@ -89,11 +98,20 @@ same-length-7 c = search needs
 same-length-8 : tie.Need-same-length-8
 same-length-8 c = search needs
 
+returns-2 : tie.Need-returns-2
+returns-2 c =
+    let known = c .before .before .before .before in
+    let promised = known .before .before .before .before .before .before .before .before .next .ensures in
+    record {
+      answer = Finished;
+      promise = rw (known .enum-told .given .1) at promised;
+      line = c .before .before .end .ensures;
+      count = refl;
+      last = refl;
+    }
+
 same-length-9 : tie.Need-same-length-9
 same-length-9 c = search needs
-
-returns-3 : tie.Need-returns-3
-returns-3 c = search needs
 
 same-length-10 : tie.Need-same-length-10
 same-length-10 c = search needs
@@ -104,22 +122,26 @@ same-length-11 c = search needs
 same-length-12 : tie.Need-same-length-12
 same-length-12 c = search needs
 
-same-length-13 : tie.Need-same-length-13
-same-length-13 c = search needs
+returns-3 : tie.Need-returns-3
+returns-3 c =
+    let known = c .before .before .before .before .before in
+    let told = known .number .given in
+    let promised = known .before .before .before .before .before .before .before .before .next .ensures in
+    record {
+      answer = Refused (told .0 .0) (told .0 .1 .0);
+      promise = rw (told .1) at promised;
+      line = c .before .before .refused .ensures;
+      count = refl;
+      last = refl;
+    }
 
-returns-4 : tie.Need-returns-4
-returns-4 c = search needs
-
-pub print-next-spec : {M : Type 1} → statement M
-print-next-spec =
+pub answered-spec : {M : Type 1} → statement M
+answered-spec =
     tie.close
     (tie.spec
-    with-room-requires
-    same-length
-    returns
     next-requires
     enum-known-target
-    add-t27
+    add-t21
     slice-reshare-prefix-sentence
     slice-aggregate-sentence
     slice-reshare-prefix-sentence-2
@@ -127,22 +149,20 @@ print-next-spec =
     sentence-requires
     enum-told
     end-requires
-    print-last-requires
     enum-known-number
     refused-requires
-    print-last-requires-2
+    same-length
     same-length-2
     same-length-3
     same-length-4
+    returns
     same-length-5
-    returns-2
     same-length-6
     same-length-7
     same-length-8
+    returns-2
     same-length-9
-    returns-3
     same-length-10
     same-length-11
     same-length-12
-    same-length-13
-    returns-4)
+    returns-3)

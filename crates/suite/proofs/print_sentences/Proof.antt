@@ -1,8 +1,10 @@
 -- `suite::print_sentences` is safe and ends: it takes at most 257 turns. The buffers keep their lengths, what waits lies within the
 -- text, and there are no more sentences than turns. Assumes nothing.
 use Prim.Native.Nat.{_≤_, _-_}
+use native.Mathlib.Omega.{arith}
 use mathlib.Core.Path.{_≡_}
 use lib.ListN.{length}
+use Rattle.suite.proofs.AfterAnswer.{waits-within, counts-few}
 use borrow.Author.Needs.{needs}
 use Rattle.suite.proofs.print_sentences.Statement.{statement}
 use Rattle.suite.proofs.print_sentences.Tie as tie
@@ -10,7 +12,7 @@ use Rattle.suite.proofs.print_sentences.Tie as tie
 abbrev Inv-loop : tie.InvT-loop
 Inv-loop words table text₀ waiting marks₀ sentence₀ derivation₀ so₀ turn₀ text marks sentence derivation so turn =
     (length text ≡ length text₀) × (256 ≡ length marks) × (4096 ≡ length sentence) × (4096 ≡ length derivation) ×
-    (so .waiting ≤ length text) × (so .count ≤ turn) × (turn ≤ 257)
+    (so .waiting ≤ length text) × (24594 ≤ length text) × (so .count ≤ turn) × (turn ≤ 257)
 
 abbrev μ-loop : tie.MeasureT-loop
 μ-loop words table text₀ waiting marks₀ sentence₀ derivation₀ so₀ turn₀ text marks sentence derivation so turn = 257 - turn
@@ -37,19 +39,27 @@ loop-less : tie.Need-loop-less Inv-loop μ-loop
 loop-less c = search needs
 
 loop-again : tie.Need-loop-again Inv-loop μ-loop
-loop-again c = search needs
+loop-again c =
+    let next = c .before .before .before .before .before .print-next .ensures in
+    let few = counts-few next in (
+      search needs,
+      search needs,
+      search needs,
+      search needs,
+      waits-within next,
+      search needs,
+      omega arith,
+      search needs,
+    )
+
+print-requires : tie.Need-print-requires Inv-loop μ-loop
+print-requires c κs = search needs
 
 same-length : tie.Need-same-length Inv-loop μ-loop
 same-length c = search needs
 
 returns : tie.Need-returns Inv-loop μ-loop
 returns c = search needs
-
-same-length-2 : tie.Need-same-length-2 Inv-loop μ-loop
-same-length-2 c = search needs
-
-returns-2 : tie.Need-returns-2 Inv-loop μ-loop
-returns-2 c = search needs
 
 pub print-sentences-spec : {M : Type 1} → statement M
 print-sentences-spec =
@@ -65,7 +75,6 @@ print-sentences-spec =
     add-turn
     loop-less
     loop-again
+    print-requires
     same-length
-    returns
-    same-length-2
-    returns-2)
+    returns)
