@@ -1,1 +1,2 @@
 pub mod AfterAnswer
+pub mod WholeLine
