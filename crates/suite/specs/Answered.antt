@@ -1,6 +1,6 @@
 -- The line that the program prints for what `next` answers. Document 01: "Each next line has target, token count, tokens, rule count,
 -- rule numbers. The last has the sentence count. A refused file prints the one line `refused`, number, place". Assumes nothing.
-use Prim.Native.Nat.{ℕ, _+_, _≤_}
+use Prim.Native.Nat.{ℕ, _+_, _≤_, _<_}
 use mathlib.Core.Path.{_≡_}
 use mathlib.Core.Bool.{Bool, true, false}
 use mathlib.Core.List.{List}
@@ -41,15 +41,15 @@ pub record Answered (words table : List ℕ) (before after : Lent) (text text′
 abbrev pub mostLine : ℕ
 mostLine = 24594
 
--- before the next line, in a text of so many octets: behind what waits there is room for the longest line
-pub record Ready (room : ℕ) (so ready : Printed) : Type 0 where
-  pub count : ready .count ≡ so .count
-  pub waiting : ready .waiting + mostLine ≤ room
+-- Before the next line: where the longest one has room behind what waits, nothing happens; else what waits is written, and it is over
+-- if that failed. No promise can say what was written.
+pub data Ready (room : ℕ) (so : Printed) : Printed → Type 0 where
+  room-left : so .waiting + mostLine ≤ room → Ready room so so
+  made-room : (over : Bool) → room < so .waiting + mostLine → Ready room so (record { count = so .count; waiting = 0; over = over })
 
--- The next line: none, and it is over, where a write failed that was to make room; else the line for an answer of `next`, behind
--- what waits.
+-- The next line: none where a write failed that was to make room; else the line for an answer of `next`, behind what waits then.
 pub data PrintedNext (words table : List ℕ) (before after : Lent) (text text′ : List ℕ) (so then : Printed) : Type 0 where
-  write-failed : then .over ≡ true → Ready (length text) so then → after ≡ before → text′ ≡ text →
+  write-failed : Ready (length text) so then → then .over ≡ true → after ≡ before → text′ ≡ text →
       PrintedNext words table before after text text′ so then
-  printed : (ready : Printed) → Ready (length text) so ready → Answered words table before after text text′ ready then →
-      PrintedNext words table before after text text′ so then
+  printed : (ready : Printed) → Ready (length text) so ready → ready .over ≡ false →
+      Answered words table before after text text′ ready then → PrintedNext words table before after text text′ so then

@@ -6,8 +6,6 @@ use Rattle.handout.proofs.NextExact.{next-writes}
 use borrow.Author.Needs.{needs}
 use Rattle.suite.proofs.answered.Statement.{statement}
 use Rattle.suite.proofs.answered.Tie as tie
-use Rattle.suite.proofs.answered.Reads as reads
-use Rattle.suite.proofs.answered.Lts as lts
 
 next-requires : tie.Need-next-requires
 next-requires c κs = search needs

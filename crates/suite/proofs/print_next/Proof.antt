@@ -1,11 +1,11 @@
 -- `suite::print_next` meets its contract. Assumes nothing.
+use native.Mathlib.Omega.{arith}
 use mathlib.Core.Path.{refl}
 use Rattle.suite.specs.Answered.{write-failed, printed}
+use Rattle.suite.proofs.AfterAnswer.{same-count}
 use borrow.Author.Needs.{needs}
 use Rattle.suite.proofs.print_next.Statement.{statement}
 use Rattle.suite.proofs.print_next.Tie as tie
-use Rattle.suite.proofs.print_next.Reads as reads
-use Rattle.suite.proofs.print_next.Lts as lts
 
 with-room-requires : tie.Need-with-room-requires
 with-room-requires c κs = search needs
@@ -14,10 +14,10 @@ same-length : tie.Need-same-length
 same-length c = search needs
 
 returns : tie.Need-returns
-returns c = write-failed (c .if1 .taken) (c .before .with-room .ensures) refl refl
+returns c = write-failed (c .before .with-room .ensures) (c .if1 .taken) refl refl
 
 answered-requires : tie.Need-answered-requires
-answered-requires c κs = search needs
+answered-requires c κs = omega (arith, same-count (c .before .before .before .before .before .with-room .ensures))
 
 same-length-2 : tie.Need-same-length-2
 same-length-2 c = search needs
@@ -35,7 +35,8 @@ returns-2 : tie.Need-returns-2
 returns-2 c =
     let line = c .before .before .before .before .before .before .before .before in
     let room = line .before .before .before .before .before .before in
-    printed (room .with-room .result) (room .with-room .ensures) (line .answered .ensures)
+    printed (room .with-room .result) (room .with-room .ensures) (line .before .before .before .before .before .if1 .left)
+    (line .answered .ensures)
 
 pub print-next-spec : {M : Type 1} → statement M
 print-next-spec =

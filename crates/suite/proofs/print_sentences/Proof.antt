@@ -46,7 +46,7 @@ loop-again c =
       search needs,
       search needs,
       search needs,
-      waits-within next,
+      waits-within next (search needs),
       search needs,
       omega arith,
       search needs,
