@@ -1,2 +1,3 @@
 pub mod AfterAnswer
 pub mod WholeLine
+pub mod WholeText
