@@ -1,5 +1,5 @@
--- How long a line can be: with numbers of at most five digits, six octets for each number and one for the line's end. Document 01: "In
--- the suite no sentence and its derivation together exceed 4,096 numbers." Assumes nothing.
+-- How long a line can be: with numbers of at most five digits, six octets for each number and one for the line's end. Document
+-- 01: "In the suite no sentence and its derivation together exceed 4,096 numbers." Assumes nothing.
 use Prim.Native.Nat.{ℕ, suc, _+_, _*_, _≤_, _<_}
 use native.Mathlib.Omega.{arith}
 use mathlib.Core.Path.{_≡_}

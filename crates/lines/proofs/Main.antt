@@ -3,8 +3,8 @@
 use Prim.Native.Nat.{ℕ, _+_, _/_, _%_, _≤_, _<_}
 use mathlib.Core.Path.{_≡_}
 use mathlib.Core.List.{List, [], _∷_, _++_}
-use lib.ListN.{length, take, drop}
-use Rattle.lines.specs.Digits.{digit, decimal}
+use lib.ListN.{length, take, drop, getD}
+use Rattle.lines.specs.Digits.{digit, decimal, spelled}
 use Rattle.lines.specs.Lines.{suiteLine, sentenceLine, endLine, refusedLine}
 use Rattle.lines.specs.Room.{Written}
 use Rattle.lines.proofs.DigitsOfNumbers as Digits
@@ -15,7 +15,7 @@ use Rattle.lines.proofs.Settles as Settles
 use Rattle.lines.proofs.Samples as Samples
 use Rattle.lines.proofs.Samples.{samples, Right}
 
--- SETTLED. Any two outcomes that a promise allows for the same input coincide: the index answered, and the whole of the lent buffer.
+-- SETTLED. Any two outcomes that a promise allows for the same input coincide: the index answered, and all of the lent buffer.
 pub suite-settles : (N T R : ℕ) {buffer a b : List ℕ} {at p q : ℕ} → Written (suiteLine N T R) buffer at a p →
     Written (suiteLine N T R) buffer at b q → (p ≡ q) × (a ≡ b)
 suite-settles = Settles.suite-settles
@@ -40,8 +40,15 @@ decimal-one = Digits.decimal-one
 pub decimal-more : (n : ℕ) → 10 ≤ n → decimal n ≡ decimal (n / 10) ++ (digit (n % 10) ∷ [])
 decimal-more = Digits.decimal-more
 
--- WHOLE. Where there is room the buffer holds the whole line and the index is past it; an index below the buffer's length says that
--- there was room; a line written from 0 on is the buffer's front.
+-- They spell the number, and have no zero in front but for 0 itself.
+pub decimal-spells : (n : ℕ) → spelled 0 (decimal n) ≡ n
+decimal-spells = Digits.decimal-spells
+
+pub decimal-no-zero : (n : ℕ) → 0 < n → getD (decimal n) 0 0 ≡ 48 → ⊥
+decimal-no-zero = Digits.decimal-no-zero
+
+-- WHOLE. Where there is room the buffer holds the whole line and the index is past it; an index below the buffer's length says
+-- that there was room; a line written from 0 on is the buffer's front.
 pub with-room : {text buffer after : List ℕ} {at past : ℕ} → Written text buffer at after past →
     at + length text ≤ length buffer →
     (past ≡ at + length text) × (after ≡ take at buffer ++ text ++ drop (at + length text) buffer)

@@ -1,4 +1,4 @@
--- Any two outcomes that a promise allows for the same input coincide: the index answered, and the whole of the lent buffer. The promise
+-- Any two outcomes that a promise allows for the same input coincide: the index answered, and all of the lent buffer. The promise
 -- of each function is `Written` of its line. Assumes nothing.
 use Prim.Native.Nat.{ℕ}
 use mathlib.Core.Path.{_≡_, sym, _∙_}

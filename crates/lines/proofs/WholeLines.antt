@@ -1,5 +1,5 @@
--- Where there is room for all of a text: the buffer holds it, between what stood before and behind it, and the index is past it. An
--- index below the buffer's length says that there was room. Assumes nothing.
+-- Where there is room for all of a text: the buffer holds it, between what stood before and behind it, and the index is past it.
+-- An index below the buffer's length says that there was room. Assumes nothing.
 use Prim.Native.Nat.{ℕ, _+_, _≤_, _<_}
 use native.Mathlib.Omega.{arith}
 use native.Mathlib.Nat.{zero-add}

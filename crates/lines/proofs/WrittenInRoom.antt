@@ -1,5 +1,5 @@
--- Writing as far as there is room: two texts one after the other are one text, and nothing is a text too. Where a text is cut, both the
--- index past it and the index that it would have reached lie past the end, where stores change nothing. Assumes nothing.
+-- Writing as far as there is room: two texts one after the other are one text, and nothing is a text too. Where a text is cut,
+-- both the index past it and the index that it would have reached lie past the end, where stores change nothing. Assumes nothing.
 use Prim.Native.Nat.{ℕ, zero, suc, _+_, _-_, _≤_, _<_, min}
 use native.Mathlib.Omega.{arith}
 use native.Mathlib.Decide.{decLe}

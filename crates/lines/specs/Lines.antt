@@ -1,7 +1,7 @@
 -- The lines that the suite program prints, each as its octets. Document 01:
---   "The first line has N, T, R. Each next line has target, token count, tokens, rule count, rule numbers. The last has the sentence
---    count. A refused file prints the one line `refused`, number, place: empty input gives `refused 1 0`. Numbers are decimal, one
---    space stands between items, and each line ends with octet 0A."
+--   "The first line has N, T, R. Each next line has target, token count, tokens, rule count, rule numbers. The last has the
+--    sentence count. A refused file prints the one line `refused`, number, place: empty input gives `refused 1 0`. Numbers are
+--    decimal, one space stands between items, and each line ends with octet 0A."
 -- Assumes nothing.
 use Prim.Native.Nat.{ℕ}
 use mathlib.Core.List.{List, [], _∷_, _++_}

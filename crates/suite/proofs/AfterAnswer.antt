@@ -10,7 +10,8 @@ use Rattle.handout.specs.declared.NextAnswer.{NextAnswer}
 use Rattle.handout.specs.declared.NextAnswer.the-variants.{Next, Finished, Refused}
 use Rattle.lines.proofs.WholeLines.{within}
 use Rattle.suite.specs.declared.Printed.{Printed}
-use Rattle.suite.specs.Answered.{mostLine, Answered, counted, Ready, room-left, made-room, PrintedNext, write-failed, printed}
+use Rattle.suite.specs.Answered.{mostLine, Answered, counted, Ready, room-left, made-room}
+use Rattle.suite.specs.Answered.{PrintedNext, write-failed, printed}
 
 one-more : (answer : NextAnswer) (count : ℕ) → counted answer count ≤ count + 1
 one-more (Next r n m) count = omega arith
@@ -27,7 +28,8 @@ same-count (room-left h) = refl
 same-count (made-room over h) = refl
 
 module _ {words table text text′ : List ℕ} {before after : Lent} {so then : Printed} where
-  pub waits-within : PrintedNext words table before after text text′ so then → mostLine ≤ length text → then .waiting ≤ length text′
+  pub waits-within : PrintedNext words table before after text text′ so then → mostLine ≤ length text →
+      then .waiting ≤ length text′
   waits-within (write-failed ready over kept same) fits = rw same (omega (arith, room-for-line ready fits))
   waits-within (printed ready is on a) fits = within (a .line) (omega (arith, room-for-line is fits))
 

@@ -1,3 +1,4 @@
 pub mod AfterAnswer
 pub mod WholeLine
 pub mod WholeText
+pub mod Statements

@@ -1,5 +1,5 @@
--- A line that the program prints is whole: in a night a sentence and its derivation are at most 4,096 numbers, so that with room for
--- 24,594 octets no line is cut. Assumes nothing.
+-- A line that the program prints is whole: in a night a sentence and its derivation are at most 4,096 numbers, so that with room
+-- for 24,594 octets no line is cut. Assumes nothing.
 use Prim.Native.Nat.{ℕ, zero, suc, _+_, _≤_, _<_}
 use native.Mathlib.Omega.{arith}
 use mathlib.Core.Path.{_≡_, refl}
@@ -46,8 +46,9 @@ module _ {words table : List ℕ} {hs : List Handout} {g : Grammar} (e : layout 
       let p′ : NextPromise words table before (Next r n m) after = rw is at p in
       let proper = first-proper (night-proper e (later night p′)) in
       let few = in-bounds words e .at-most-256 in
-      rw is (sentence-few r (take n (after .tokens)) (take m (after .rules)) (omega (arith, proper .rule)) (words-take n (after .tokens) u)
-      (words-take m (after .rules) v) (proper .limit))
+      rw is
+      (sentence-few r (take n (after .tokens)) (take m (after .rules)) (omega (arith, proper .rule))
+      (words-take n (after .tokens) u) (words-take m (after .rules) v) (proper .limit))
 
   -- WHOLE: the line stands in the text behind what waited, and nothing else of the text has changed
   pub whole-line : {text text′ : List ℕ} {so then : Printed} (a : Answered words table before after text text′ so then) →

@@ -1,6 +1,6 @@
--- WHOLE TEXT: where no write fails, the program prints the first line, a line for each sentence of a night in order, and the last line.
--- Each turn puts a whole line behind what waits; making room moves what waits to what is written; so both together grow by the line.
--- Assumes nothing.
+-- WHOLE TEXT: where no write fails, the program prints the first line, a line for each sentence of a night in order, and the last
+-- line. Each turn puts a whole line behind what waits; making room moves what waits to what is written; so both together grow by
+-- the line. Assumes nothing.
 use Prim.Native.Nat.{ℕ, _+_, _≤_, _<_}
 use native.Mathlib.Omega.{arith}
 use native.Mathlib.Nat.{zero-add}
@@ -62,7 +62,8 @@ one-turn {g = g} hs night a (inr (r, n, m, is)) p last count e =
     going _ (rw is at last) (later night (rw is at p)) (omega arith)
     ((rw is at e) ∙ append-assoc (suiteLine (g .N) (g .T) (R g)) (sentenceLines hs) _)
 
-module _ {words table : List ℕ} {g : Grammar} (reads-g : layout words ≡ reads g) (accepted : Accepted g) (tabled : HasTable g table) where
+module _ {words table : List ℕ} {g : Grammar} (reads-g : layout words ≡ reads g) (accepted : Accepted g)
+    (tabled : HasTable g table) where
   step : (written : List ℕ) {text text′ : List ℕ} {before after : Lent} {so ready then : Printed} →
       Told words table g (written ++ take (so .waiting) text) before so → so .over ≡ false → (is : Ready (length text) so ready) →
       Answered words table before after text text′ ready then → Large g before after text →

@@ -1,5 +1,6 @@
--- The line that the program prints for what `next` answers. Document 01: "Each next line has target, token count, tokens, rule count,
--- rule numbers. The last has the sentence count. A refused file prints the one line `refused`, number, place". Assumes nothing.
+-- The line that the program prints for what `next` answers. Document 01: "Each next line has target, token count, tokens, rule
+-- count, rule numbers. The last has the sentence count. A refused file prints the one line `refused`, number, place". Assumes
+-- nothing.
 use Prim.Native.Nat.{ℕ, _+_, _≤_, _<_}
 use mathlib.Core.Path.{_≡_}
 use mathlib.Core.Bool.{Bool, true, false}
@@ -41,11 +42,12 @@ pub record Answered (words table : List ℕ) (before after : Lent) (text text′
 abbrev pub mostLine : ℕ
 mostLine = 24594
 
--- Before the next line: where the longest one has room behind what waits, nothing happens; else what waits is written, and it is over
--- if that failed. No promise can say what was written.
+-- Before the next line: where the longest one has room behind what waits, nothing happens; else what waits is written, and it is
+-- over if that failed. No promise can say what was written.
 pub data Ready (room : ℕ) (so : Printed) : Printed → Type 0 where
   room-left : so .waiting + mostLine ≤ room → Ready room so so
-  made-room : (over : Bool) → room < so .waiting + mostLine → Ready room so (record { count = so .count; waiting = 0; over = over })
+  made-room : (over : Bool) → room < so .waiting + mostLine →
+      Ready room so (record { count = so .count; waiting = 0; over = over })
 
 -- The next line: none where a write failed that was to make room; else the line for an answer of `next`, behind what waits then.
 pub data PrintedNext (words table : List ℕ) (before after : Lent) (text text′ : List ℕ) (so then : Printed) : Type 0 where

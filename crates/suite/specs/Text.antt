@@ -30,7 +30,8 @@ writtenOut {so = so} (made-room over h) text = take (so .waiting) text
 abbrev pub Words16 : List ℕ → Type 0
 Words16 l = (i : ℕ) → getD l i 0 < 65536
 
--- the program's buffers: a mark for each rule, room for 4,096 words in each of the other two, and for the longest line in the text
+-- the program's buffers: a mark for each rule, room for 4,096 words in each of the other two, and for the longest line in the
+-- text
 pub record Large (g : Grammar) (before after : Lent) (text : List ℕ) : Type 0 where
   pub marks : R g ≤ length (before .marks)
   pub tokens : 4096 ≤ length (before .tokens)

@@ -1,7 +1,7 @@
-// The suite program: a packed grammar file from standard input, and on standard output a line for each sentence that `handout::next`
-// hands out from clear marks, until every rule has been used; a refused file gives one line. What a line is stands in crates/lines,
-// and what is in it is settled by the calls. Lines are gathered, and written where the next one might not fit. A read that fails is
-// the end of the input; after a write that fails nothing more is written.
+// The suite program: a packed grammar file from standard input, and on standard output a line for each sentence that
+// `handout::next` hands out from clear marks, until every rule has been used; a refused file gives one line. What a line is stands
+// in crates/lines, and what is in it is settled by the calls. Lines are gathered, and written where the next one might not fit. A
+// read that fails is the end of the input; after a write that fails nothing more is written.
 ghost use Prim.Native.Nat.{_≤_};
 ghost use lib.ListN.{length};
 ghost use Rattle.handout.specs.Next.{Lent};
@@ -15,8 +15,8 @@ use tables::TableAnswer;
 // "The program reads at most 17,418 octets": one more than the longest file has.
 const MOST_READ: usize = 17418;
 
-// The most words of a file, words of a table (5 for each of 128 nonterminals, 1 for each rule), rules, and numbers of a sentence and
-// its derivation: with these no call is refused for room.
+// The most words of a file, words of a table (5 for each of 128 nonterminals, 1 for each rule), rules, and numbers of a sentence
+// and its derivation: with these no call is refused for room.
 const MOST_WORDS: usize = 8707;
 
 const MOST_TABLE: usize = 896;

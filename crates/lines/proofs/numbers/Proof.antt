@@ -45,8 +45,8 @@ loop-again : tie.Need-loop-again Inv-loop μ-loop
 loop-again c =
     let turn = c .before .before .before .before .before .before .before in
     let list = turn .before .before .before .args .list .now in
-    let e = c .before .before .before .before .wide .ensures in
-    (omega arith, next-number list (turn .loop .i) (omega arith) (turn .loop .inv .1) (rw (← e) (c .before .before .number .ensures)))
+    let number = rw (c .before .before .before .before .wide .ensures) at (c .before .before .number .ensures) in
+    (omega arith, next-number list (turn .loop .i) (omega arith) (turn .loop .inv .1) number)
 
 same-length : tie.Need-same-length Inv-loop μ-loop
 same-length c = kept (c .before .loop .inv .1)

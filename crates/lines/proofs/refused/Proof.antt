@@ -38,4 +38,7 @@ returns c =
     and-then (and-then (worded .word .ensures) numbers) (ended .put .ensures)
 
 pub refused-spec : {M : Type 1} → statement M
-refused-spec = tie.close (tie.spec slice-aggregate-word word-requires wide-requires number-requires number-requires-2 put-requires same-length returns)
+refused-spec =
+    tie.close
+    (tie.spec slice-aggregate-word word-requires wide-requires number-requires number-requires-2
+    put-requires same-length returns)

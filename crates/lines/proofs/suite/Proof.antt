@@ -40,4 +40,7 @@ returns c =
     and-then (and-then (worded .word .ensures) numbers) (ended .put .ensures)
 
 pub suite-spec : {M : Type 1} → statement M
-suite-spec = tie.close (tie.spec slice-aggregate-word word-requires number-requires number-requires-2 number-requires-3 put-requires same-length returns)
+suite-spec =
+    tie.close
+    (tie.spec slice-aggregate-word word-requires number-requires number-requires-2 number-requires-3
+    put-requires same-length returns)

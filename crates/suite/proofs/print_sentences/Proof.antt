@@ -1,5 +1,5 @@
--- `suite::print_sentences` is safe and ends: it takes at most 257 turns. The buffers keep their lengths, what waits lies within the
--- text, and there are no more sentences than turns. Assumes nothing.
+-- `suite::print_sentences` is safe and ends: it takes at most 257 turns. The buffers keep their lengths, what waits lies within
+-- the text, and there are no more sentences than turns. Assumes nothing.
 use Prim.Native.Nat.{_≤_, _-_}
 use native.Mathlib.Omega.{arith}
 use mathlib.Core.Path.{_≡_}
