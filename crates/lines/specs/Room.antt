@@ -9,5 +9,5 @@ use lib.Seq.{sets}
 pub record Written (text buffer : List ℕ) (at : ℕ) (after : List ℕ) (past : ℕ) : Type 0 where
   -- the octets stand at the indexes from `at` on, one after the other; past the buffer's end a store changes nothing
   pub holds : after ≡ sets buffer at text
-  -- past as many octets as there was room for: below the buffer's length this is past the whole text (`whole-line`)
+  -- past as many octets as there was room for: below the buffer's length this is past the whole text (`room-told`)
   pub index : past ≡ at + min (length text) (length buffer - at)

@@ -1,12 +1,11 @@
 -- The final statements of this crate, each by one citation. A reader who believes specs/ and reads this page is done. No contract
 -- can say what is read or written; these say what stands in the text that is handed to be written. Assumes nothing.
-use Prim.Native.Nat.{_+_, _≤_, _<_}
+use Prim.Native.Nat.{ℕ, _+_, _≤_, _<_}
 use mathlib.Core.Path.{_≡_}
-use mathlib.Core.Bool.{true}
+use mathlib.Core.Bool.{true, false}
 use mathlib.Core.List.{List, _++_}
-use Prim.Native.Nat.{ℕ}
 use lib.ListN.{length, take, drop}
-use Rattle.grammar.specs.Words.{Grammar, layout, reads}
+use Rattle.grammar.specs.Words.{Grammar, R, layout, reads}
 use Rattle.grammar.specs.Refusals.{Accepted}
 use Rattle.tables.specs.Table.{HasTable}
 use Rattle.handout.specs.Next.{Lent}
@@ -35,3 +34,9 @@ pub whole-text : {words table : List ℕ} {g : Grammar} → layout words ≡ rea
     {written text : List ℕ} {lent : Lent} {so : Printed} → Turns words table g written lent text so → so .over ≡ true →
     (hs : List Handout) × Over words table hs × (written ++ take (so .waiting) text ≡ suiteText g hs)
 whole-text = WholeText.whole-text
+
+-- TURNS. While it is not over there are no more sentences than rules; each turn but the last adds one, so that 257 turns are enough.
+pub few-turns : {words table : List ℕ} {g : Grammar} → layout words ≡ reads g → Accepted g → HasTable g table →
+    {written text : List ℕ} {lent : Lent} {so : Printed} → Turns words table g written lent text so → so .over ≡ false →
+    so .count ≤ R g
+few-turns = WholeText.few-turns

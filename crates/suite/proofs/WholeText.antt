@@ -91,7 +91,7 @@ module _ {words table : List ℕ} {g : Grammar} (reads-g : layout words ≡ read
   unfolding sentenceLines
   told (begun clear-marks none on first) =
       going [] on (clear clear-marks) none (first ∙ sym (append-nil (suiteLine (g .N) (g .T) (R g))))
-  told (turn {written = written} t on is a large) = step written (told t) on is a large
+  told (turn {written = written} t on is room a large) = step written (told t) on is a large
 
   -- WHOLE TEXT: once it is over, what is written and what waits are the whole text of a night
   pub whole-text : {written text : List ℕ} {lent : Lent} {so : Printed} → Turns words table g written lent text so →
@@ -102,3 +102,12 @@ module _ {words table : List ℕ} {g : Grammar} (reads-g : layout words ≡ read
           (hs : List Handout) × Over words table hs × (out ≡ suiteText g hs)
       go (going hs on night count e) over = absurd (let z : _≡_ {A = Bool} true false = cc in true-not-false z)
       go (ended hs is o e) over = (hs, o, e)
+
+  -- TURNS: while it is not over there are no more sentences than rules; each turn but the last adds one, so it is over in time
+  pub few-turns : {written text : List ℕ} {lent : Lent} {so : Printed} → Turns words table g written lent text so →
+      so .over ≡ false → so .count ≤ R g
+  few-turns t on = go (told t) on
+    where
+      go : {out : List ℕ} {lent : Lent} {so : Printed} → Told words table g out lent so → so .over ≡ false → so .count ≤ R g
+      go (going hs is night count e) on = let few = at-most-R reads-g night in omega arith
+      go (ended hs is o e) on = absurd (let z : _≡_ {A = Bool} true false = cc in true-not-false z)

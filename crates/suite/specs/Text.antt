@@ -30,8 +30,7 @@ writtenOut {so = so} (made-room over h) text = take (so .waiting) text
 abbrev pub Words16 : List ℕ → Type 0
 Words16 l = (i : ℕ) → getD l i 0 < 65536
 
--- the program's buffers: a mark for each rule, room for 4,096 words in each of the other two, and for the longest line in the
--- text
+-- the program's buffers: a mark for each rule, room for 4,096 words in each of the other two, room for the longest line in the text
 pub record Large (g : Grammar) (before after : Lent) (text : List ℕ) : Type 0 where
   pub marks : R g ≤ length (before .marks)
   pub tokens : 4096 ≤ length (before .tokens)
@@ -47,5 +46,5 @@ pub data Turns (words table : List ℕ) (g : Grammar) : List ℕ → Lent → Li
       so .over ≡ false → take (so .waiting) text ≡ suiteLine (g .N) (g .T) (R g) → Turns words table g [] lent text so
   turn : {before after : Lent} {written text text′ : List ℕ} {so ready then : Printed} →
       Turns words table g written before text so → so .over ≡ false → (is : Ready (length text) so ready) →
-      Answered words table before after text text′ ready then → Large g before after text →
+      ready .over ≡ false → Answered words table before after text text′ ready then → Large g before after text →
       Turns words table g (written ++ writtenOut is text) after text′ then
