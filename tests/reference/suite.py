@@ -3,15 +3,15 @@
 
     suite.py < FILE
 
-The table comes from tables.py beside it; the trees are listed here, as the document lists them. Nothing is done for speed.
+Words are read and tables worked out by tables.py beside it, and trees built and listed by handout.py.
 """
 import sys
 
-from tables import Refused, read, table_of
+from handout import Grammar, its_table, sentence_and_derivation
+from tables import Refused
 
 MOST_READ = 17418
 MOST_OCTETS = 17414
-MOST_TABLE = 5 * 128 + 256
 
 
 def packed(words):
@@ -32,63 +32,35 @@ def unpacked(file):
     return [file[i] * 256 + file[i + 1] for i in range(3, len(file), 2)]
 
 
-class Listings:
-    """Listings as (tokens, rule numbers): "a symbol's listing is its rule's listing (a terminal's is itself); a rule's listing is
-    its number, then its symbols' listings in order"."""
+class Night:
+    """The sentences of a grammar from clear marks until every rule is used, as (target, sentence, derivation)."""
 
     def __init__(self, words):
-        self.n, self.start, self.rules = read(words)
-        table = table_of(words, MOST_TABLE)
-        self.chosen = [table[5 * a + 1] for a in range(self.n)]
-        self.context = [(table[5 * a + 3], table[5 * a + 4]) for a in range(self.n)]
-        self.opened = {}
-
-    def of_symbol(self, s):
-        if s >= self.n:
-            return [s], []
-        if s not in self.opened:
-            self.opened[s] = self.of_rule(self.chosen[s])
-        return self.opened[s]
-
-    def of_rule(self, rule, place=None, there=None):
-        """The listing of a rule, whose symbol at place, if any, is listed as there says."""
-        tokens, numbers = [], [rule]
-        for i, s in enumerate(self.rules[rule][1]):
-            more_tokens, more_numbers = there if i == place else self.of_symbol(s)
-            tokens += more_tokens
-            numbers += more_numbers
-        return tokens, numbers
-
-    def of_tree(self, rule):
-        """"The tree of rule r follows the context choices from the start to r's left side, puts r there, and opens every other
-        nonterminal by its chosen rule." From r upwards here."""
-        listing = self.of_rule(rule)
-        a = self.rules[rule][0]
-        while a != self.start:
-            above, place = self.context[a]
-            listing = self.of_rule(above, place, listing)
-            a = self.rules[above][0]
-        return listing
+        table = its_table(words)
+        grammar = Grammar(words, table)
+        self.rules = grammar.rules
+        self.totals = table[5 * grammar.n:]
+        self.sentences = []
+        used = set()
+        for target in range(len(self.rules)):
+            if target not in used:
+                sentence, derivation = sentence_and_derivation(grammar.tree(target))
+                used.update(derivation)
+                self.sentences.append((target, sentence, derivation))
 
 
 def lines(file):
     """The lines that the program prints, for its whole input."""
     try:
         words = unpacked(file[:MOST_READ])
-        listings = Listings(words)
+        night = Night(words)
     except Refused as refused:
         yield "refused", *refused.args
         return
-    rules = len(listings.rules)
-    yield "suite", words[0], words[1], rules
-    used, count = set(), 0
-    for target in range(rules):
-        if target not in used:
-            tokens, numbers = listings.of_tree(target)
-            used |= set(numbers)
-            count += 1
-            yield target, len(tokens), *tokens, len(numbers), *numbers
-    yield "end", count
+    yield "suite", words[0], words[1], len(night.rules)
+    for target, sentence, derivation in night.sentences:
+        yield target, len(sentence), *sentence, len(derivation), *derivation
+    yield "end", len(night.sentences)
 
 
 def printed(file):
