@@ -1,0 +1,3 @@
+pub mod CallsSettle
+pub mod AnswersTold
+pub mod Main
