@@ -1,4 +1,5 @@
 """What the tests of the calls are built of: the archive of the proved calls, and programs linked with it, under target/calls."""
+import os
 import pathlib
 import subprocess
 import sys
@@ -29,8 +30,8 @@ def archive():
 
 
 def rust(source, name, *options, **environment):
-    """A program of Rust, linked with the archive."""
+    """A program of Rust, linked with the archive; what it takes from the environment as it is compiled is given by name."""
     archive()
-    run('rustc', '--edition', '2021', '-D', 'warnings', '-L', ARCHIVE.parent, *options, TOP / source, '-o', BUILD / name,
-        **environment)
+    given = {**os.environ, **{key.upper(): str(value) for key, value in environment.items()}}
+    run('rustc', '--edition', '2021', '-D', 'warnings', '-L', ARCHIVE.parent, *options, TOP / source, '-o', BUILD / name, env=given)
     return BUILD / name
