@@ -1,5 +1,5 @@
 /* The five calls of Vanchiluk, for C and C++. `rt staticlib calls` writes the archive target/staticlib/libcalls.a, which has them
- * and needs no other library.
+ * and needs nothing but the C library's memset.
  *
  * Each slice is a pointer and a count of elements. A caller owes this, and nothing checks it: no pointer is null, also where the
  * count is 0; each is aligned and points at so many elements; and what a call may write overlaps nothing else that it is lent.
@@ -14,7 +14,8 @@
  *
  * Every call takes any input, ends, and answers. Where it refuses, and at VANCHILUK_FINISHED, no buffer has changed but `answer`;
  * past the length written a buffer keeps its content. The numbers of the refusals are in README.md. A call keeps nothing and
- * shares nothing with another, so calls on buffers of their own may run in any number of threads.
+ * shares nothing with another: calls may run in any number of threads, each with buffers of its own to write, and what is only
+ * read may be lent to several.
  */
 #ifndef VANCHILUK_H
 #define VANCHILUK_H
