@@ -88,4 +88,5 @@ def main():
         print('refused', *refused.args)
 
 
-main()
+if __name__ == '__main__':
+    main()

@@ -1,6 +1,7 @@
 """What the tests of the calls are built of: the archive of the proved calls, and programs linked with it, under target/calls."""
 import os
 import pathlib
+import shutil
 import subprocess
 import sys
 
@@ -11,6 +12,8 @@ ARCHIVE = TOP / 'target' / 'staticlib' / 'libcalls.a'
 
 def run(*command, **options):
     """What a command prints. A failure is shown, and ends the test."""
+    if not shutil.which(str(command[0])):
+        sys.exit(f'{command[0]} is not on the PATH, and this test needs it')
     done = subprocess.run(list(map(str, command)), stdout=subprocess.PIPE, stderr=subprocess.PIPE, **options)
     if done.returncode:
         sys.stdout.flush()
