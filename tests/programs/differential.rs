@@ -19,8 +19,7 @@ trait Calls {
     fn unpack(&mut self, file: &[u8], words: &mut [u16]) -> [u64; 4];
     fn pack(&mut self, words: &[u16], file: &mut [u8]) -> [u64; 4];
     fn tables(&mut self, words: &[u16], table: &mut [u16]) -> [u64; 4];
-    fn next(&mut self, words: &[u16], table: &[u16], marks: &mut [u8], sentence: &mut [u16], derivation: &mut [u16])
-        -> [u64; 4];
+    fn next(&mut self, words: &[u16], table: &[u16], marks: &mut [u8], sentence: &mut [u16], derivation: &mut [u16]) -> [u64; 4];
     fn replay(&mut self, words: &[u16], list: &[u16], sentence: &mut [u16]) -> [u64; 4];
 }
 
@@ -36,8 +35,14 @@ macro_rules! calls_of {
             fn tables(&mut self, words: &[u16], table: &mut [u16]) -> [u64; 4] {
                 $copy::Workspace::tables(self, words, table).numbers()
             }
-            fn next(&mut self, words: &[u16], table: &[u16], marks: &mut [u8], sentence: &mut [u16], derivation: &mut [u16])
-                -> [u64; 4] {
+            fn next(
+                &mut self,
+                words: &[u16],
+                table: &[u16],
+                marks: &mut [u8],
+                sentence: &mut [u16],
+                derivation: &mut [u16],
+            ) -> [u64; 4] {
                 $copy::Workspace::next(self, words, table, marks, sentence, derivation).numbers()
             }
             fn replay(&mut self, words: &[u16], list: &[u16], sentence: &mut [u16]) -> [u64; 4] {
@@ -397,9 +402,7 @@ impl Test {
         self.lend_answer();
         let (words, words_count) = (self.words.read(), self.words.length());
         let (list, list_count, room) = (self.list.read(), self.list.length(), self.sentence.length());
-        unsafe {
-            vanchiluk_replay(words, words_count, list, list_count, self.sentence.write(), room, self.answer.write())
-        };
+        unsafe { vanchiluk_replay(words, words_count, list, list_count, self.sentence.write(), room, self.answer.write()) };
         let numbers = self.reference.replay(self.words.content(), self.list.content(), self.sentence.content_mut());
         let numbers = self.judge_4(REPLAY, numbers);
         let [kind, first, ..] = numbers;

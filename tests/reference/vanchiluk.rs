@@ -414,10 +414,7 @@ impl Workspace {
         const PLACED: u8 = 2;
         let n = self.n;
         let entry = |a: usize, column: usize| u64::from(table[5 * a + column]);
-        if table[5 * self.start + 2] != 0
-            || table[5 * self.start + 3] != NOWHERE
-            || table[5 * self.start + 4] != NOWHERE
-        {
+        if table[5 * self.start + 2] != 0 || table[5 * self.start + 3] != NOWHERE || table[5 * self.start + 4] != NOWHERE {
             return false;
         }
         self.seen.clear();
