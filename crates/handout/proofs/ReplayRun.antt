@@ -4,8 +4,9 @@ use mathlib.Core.Path.{_≡_, refl, sym, ap, _∙_, subst}
 use mathlib.Core.List.{List, [], _∷_}
 use Prim.Native.Nat.{ℕ, _≤_, _<_}
 use native.Mathlib.Omega.{arith}
-use lib.ListN.{length, set}
+use lib.ListN.{length, take, set}
 use Rattle.answers.specs.Buffers.{over}
+use Rattle.answers.proofs.WrittenFromFront.{written}
 use Rattle.grammar.specs.Words.{Grammar, layout, reads}
 use Rattle.grammar.specs.Derivation.{Start}
 use Rattle.grammar.proofs.LayoutExact.{layout-exact, in-bounds}
@@ -55,7 +56,7 @@ kept-size : (ws ats lefts : List ℕ) → length (formOf ws ats lefts outset) �
 unfolding side waiting
 kept-size ws ats lefts = refl
 
-pub kept-start : {ws list ats lefts : List ℕ} → 3 ≤ length ws → 4096 ≤ length ats → 4096 ≤ length lefts →
+pub kept-start : {ws list ats lefts : List ℕ} → 3 ≤ length ws → length list ≤ length ats → length list ≤ length lefts →
     Kept ws list ats lefts outset
 kept-start {ws} {list} {ats} {lefts} h k l = record {
   room-ats = k;
@@ -166,6 +167,21 @@ module _ {ws starts list : List ℕ} {n rules : ℕ} {g : Grammar} (view : View 
       let held : after′ ≡ over t before =
       whole′ .holds ∙ stored-over (whole′ .passed) before (omega arith) ∙ ap (λ (u : List ℕ). over u before) same in
       rw (held, long) (done (view .is) few (replay-exact g list t .0 d) (omega arith))
+
+  -- what was kept aside, if there was room for all of it, is written
+  kept-aside : {aside before after : List ℕ} {tokens : ℕ} → Whole g list aside after tokens → tokens ≤ length aside →
+      tokens ≤ length before → Replay ws list before (Done tokens) (over (take tokens after) before)
+  kept-aside {aside} {before} {after} {tokens} whole fits room =
+      let t = inFront (whole .passed) [] in
+      let long : tokens ≡ length t = omega (arith, whole .count, in-front-length (whole .passed) []) in
+      let held : after ≡ over t aside = whole .holds ∙ stored-over (whole .passed) aside (omega (arith, whole .count)) in
+      let first : take (length t) (over t aside) ≡ t = written t aside (omega arith) .front in
+      rw (held, long, first) (done (view .is) few (replay-exact g list t .0 (whole .derives)) (omega arith))
+
+  pub answers-aside : {aside before after after′ : List ℕ} {r : Outcome} {tokens : ℕ} {a : ReplayAnswer} →
+      Ran g list aside r after → r ≡ Sentence tokens → tokens ≤ length aside → tokens ≤ length before →
+      after′ ≡ over (take tokens after) before → a ≡ Done tokens → Replay ws list before a after′
+  answers-aside z e fits room c q = rw (q, c) (kept-aside (whole-of z e) fits room)
 
   never-both : {aside after : List ℕ} {tokens p : ℕ} → Whole g list aside after tokens → replay g list ≡ stopped p → ⊥
   never-both whole e = let d = whole .derives in let z : _≡_ {A = ℕ} 0 1 = cc in omega arith

@@ -78,8 +78,8 @@ pub record Ground (ws starts list : List ℕ) (rules : ℕ) : Type 0 where
 
 -- the bounds of what is open
 pub record Kept (ws list ats lefts : List ℕ) (o : Open) : Type 0 where
-  pub room-ats : 4096 ≤ length ats
-  pub room-lefts : 4096 ≤ length lefts
+  pub room-ats : length list ≤ length ats
+  pub room-lefts : length list ≤ length lefts
   pub inside : o .at + o .left ≤ length ws
   pub all-inside : (i : ℕ) → i < o .depth → getD ats i 0 + getD lefts i 0 ≤ length ws
   pub waits : o .depth ≤ o .next

@@ -1,7 +1,9 @@
-// One word of lent memory, read or written at an index, where there is such an index; and a number as a word. Assumes nothing.
+// Words of lent memory, read or written at an index where there is such an index, or copied; and a number as a word, and back.
+// Assumes nothing.
 ghost use mathlib.Core.Path.{_≡_};
 ghost use Prim.Native.Nat.{_≤_};
-ghost use lib.ListN.{getD, set};
+ghost use lib.ListN.{length, getD, set, take};
+ghost use Rattle.answers.specs.Buffers.{over};
 
 // The word at index i, and 0 past the end.
 pub fn item(words: &[u16], i: usize) -> u16
@@ -24,4 +26,22 @@ pub fn narrow(x: usize) -> u16
     ensures { λ r. ⌜ r ≡ x ⌝ }
 {
     x as u16
+}
+
+pub fn wide(x: u16) -> usize
+    ensures { λ r. ⌜ r ≡ x ⌝ }
+{
+    x as usize
+}
+
+// Copies the first words of one slice over those of another.
+pub fn copy_front(from: &[u16], count: usize, to: &mut [u16])
+    requires { ⌜ (count ≤ length (now from)) × (count ≤ length (now to)) ⌝ }
+    ensures { λ _. ⌜ now (to .exit) ≡ over (take count (now (from .entry))) (now (to .entry)) ⌝ }
+{
+    let mut i = 0;
+    while i < count {
+        to[i] = from[i];
+        i += 1;
+    }
 }

@@ -10,14 +10,20 @@ ghost use Rattle.handout.specs.Replay.{Replay};
 ghost use Rattle.handout.specs.ReplaySteps.{Ground, Kept, Bounded, Turned, Moved, Ran};
 ghost use Rattle.handout.specs.ReplaySteps.{waitingAbove};
 use crate::ReplayAnswer;
-use crate::cells::item;
+use crate::cells::copy_front;
 use crate::cells::narrow;
 use crate::cells::put;
+use crate::cells::wide;
 use grammar::rules;
 use grammar::words::word;
 
 // The most numbers that a replayed list has.
 pub const MOST_NUMBERS: usize = 4096;
+
+// Shorter lists, for which less room is cleared.
+const FEW_NUMBERS: usize = 64;
+
+const SOME_NUMBERS: usize = 512;
 
 // What is left of the form: of the right side that is read, where the next symbol is and how many are left, and how many others
 // wait; with it how many numbers are used and how many tokens are passed.
@@ -121,10 +127,12 @@ fn read_symbol(
         Moved g (now (words .entry)) (now (list .entry)) (now (ats .entry)) (now (lefts .entry)) form (now (sentence .entry)) r
         (now (ats .exit)) (now (lefts .exit)) (now (sentence .exit))) ⌝ }
 {
-    if word(words, form.at) < n {
+    let at = form.at;
+    let symbol = words[at];
+    if wide(symbol) < n {
         return expand(words, starts, rules, list, form, ats, lefts);
     }
-    put(sentence, form.tokens, item(words, form.at));
+    put(sentence, form.tokens, symbol);
     Move::On(Open {
         at: form.at + 1,
         left: form.left - 1,
@@ -179,7 +187,7 @@ fn run(
     sentence: &mut [u16],
 ) -> Outcome
     requires { ⌜ Ground (now words) (now starts) (now list) rules × ((3 ≤ length (now words)) ×
-        ((4096 ≤ length (now ats)) × (4096 ≤ length (now lefts)))) ⌝ }
+        ((length (now list) ≤ length (now ats)) × (length (now list) ≤ length (now lefts)))) ⌝ }
     ensures { λ r. ⌜ ((g : Grammar) → View (now (words .entry)) (now (starts .entry)) n rules g →
         Ran g (now (list .entry)) (now (sentence .entry)) r (now (sentence .exit))) ⌝ }
 {
@@ -224,11 +232,73 @@ pub fn of_grammar(
     }
     let mut starts = [0usize; 256];
     rules::find(words, &mut starts);
-    of_list(words, &starts, n, rules, list, sentence)
+    if list.len() <= FEW_NUMBERS {
+        return of_few(words, &starts, n, rules, list, sentence);
+    }
+    if list.len() <= SOME_NUMBERS {
+        return of_some(words, &starts, n, rules, list, sentence);
+    }
+    of_many(words, &starts, n, rules, list, sentence)
 }
 
-// 11, 3, and the sentence: the first run stores nothing.
-fn of_list(
+// A short list, with little room to clear.
+fn of_few(
+    words: &[u16],
+    starts: &[usize; 256],
+    n: usize,
+    rules: usize,
+    list: &[u16],
+    sentence: &mut [u16],
+) -> ReplayAnswer
+    requires { ⌜ ((g : Grammar) × View (now words) (now starts) n rules g) × (length (now list) ≤ 64) ⌝ }
+    ensures { λ r. ⌜ Replay (now (words .entry)) (now (list .entry)) (now (sentence .entry)) r (now (sentence .exit)) ⌝ }
+{
+    let mut ats = [0u16; FEW_NUMBERS];
+    let mut lefts = [0u16; FEW_NUMBERS];
+    let mut aside = [0u16; 256];
+    of_list(
+        words,
+        starts,
+        n,
+        rules,
+        list,
+        &mut ats,
+        &mut lefts,
+        &mut aside,
+        sentence,
+    )
+}
+
+// A longer one, of which the sentence can be long.
+fn of_some(
+    words: &[u16],
+    starts: &[usize; 256],
+    n: usize,
+    rules: usize,
+    list: &[u16],
+    sentence: &mut [u16],
+) -> ReplayAnswer
+    requires { ⌜ ((g : Grammar) × View (now words) (now starts) n rules g) × (length (now list) ≤ 512) ⌝ }
+    ensures { λ r. ⌜ Replay (now (words .entry)) (now (list .entry)) (now (sentence .entry)) r (now (sentence .exit)) ⌝ }
+{
+    let mut ats = [0u16; SOME_NUMBERS];
+    let mut lefts = [0u16; SOME_NUMBERS];
+    let mut aside = [0u16; MOST_NUMBERS];
+    of_list(
+        words,
+        starts,
+        n,
+        rules,
+        list,
+        &mut ats,
+        &mut lefts,
+        &mut aside,
+        sentence,
+    )
+}
+
+// Any list. There is little room aside: the stack is to stay small.
+fn of_many(
     words: &[u16],
     starts: &[usize; 256],
     n: usize,
@@ -241,8 +311,8 @@ fn of_list(
 {
     let mut ats = [0u16; MOST_NUMBERS];
     let mut lefts = [0u16; MOST_NUMBERS];
-    let mut nothing = [0u16; 0];
-    match run(
+    let mut aside = [0u16; 256];
+    of_list(
         words,
         starts,
         n,
@@ -250,8 +320,29 @@ fn of_list(
         list,
         &mut ats,
         &mut lefts,
-        &mut nothing,
-    ) {
+        &mut aside,
+        sentence,
+    )
+}
+
+// 11, 3, and the sentence. The tokens are kept aside until 11 and 3 are passed; a sentence that is longer than the room aside takes
+// a second run.
+fn of_list(
+    words: &[u16],
+    starts: &[usize; 256],
+    n: usize,
+    rules: usize,
+    list: &[u16],
+    ats: &mut [u16],
+    lefts: &mut [u16],
+    aside: &mut [u16],
+    sentence: &mut [u16],
+) -> ReplayAnswer
+    requires { ⌜ ((g : Grammar) × View (now words) (now starts) n rules g) × ((length (now list) ≤ 4096) ×
+        ((length (now list) ≤ length (now ats)) × (length (now list) ≤ length (now lefts)))) ⌝ }
+    ensures { λ r. ⌜ Replay (now (words .entry)) (now (list .entry)) (now (sentence .entry)) r (now (sentence .exit)) ⌝ }
+{
+    match run(words, starts, n, rules, list, ats, lefts, aside) {
         Outcome::Stopped { place } => ReplayAnswer::Refused {
             number: answers::NO_DERIVATION,
             place,
@@ -263,16 +354,11 @@ fn of_list(
                     place: tokens,
                 };
             }
-            run(
-                words,
-                starts,
-                n,
-                rules,
-                list,
-                &mut ats,
-                &mut lefts,
-                sentence,
-            );
+            if tokens <= aside.len() {
+                copy_front(aside, tokens, sentence);
+                return ReplayAnswer::Done(tokens);
+            }
+            run(words, starts, n, rules, list, ats, lefts, sentence);
             ReplayAnswer::Done(tokens)
         }
     }

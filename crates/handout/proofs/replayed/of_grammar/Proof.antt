@@ -12,10 +12,11 @@ returns c = row-12 (c .before .before .before .before .pre .1 .is) (omega arith)
 find-requires : tie.Need-find-requires
 find-requires c κs = search needs
 
-of-list-requires : tie.Need-of-list-requires
-of-list-requires c κs =
-    let p = c .before .before .before .before .before .before .before .before .pre .1 in
-    ((p .grammar, viewed p _ (c .before .before .find .ensures)), omega (arith, c .before .before .before .before .if1 .left))
+of-few-requires : tie.Need-of-few-requires
+of-few-requires c κs =
+    let find = c .before .before .before in
+    let p = find .before .before .before .before .before .before .pre .1 in
+    ((p .grammar, viewed p _ (find .find .ensures)), omega (arith, c .before .before .if2 .taken))
 
 same-length : tie.Need-same-length
 same-length c = search needs
@@ -23,5 +24,42 @@ same-length c = search needs
 returns-2 : tie.Need-returns-2
 returns-2 c = search needs
 
+of-some-requires : tie.Need-of-some-requires
+of-some-requires c κs =
+    let find = c .before .before .before .before in
+    let p = find .before .before .before .before .before .before .pre .1 in
+    ((p .grammar, viewed p _ (find .find .ensures)), omega (arith, c .before .before .if3 .taken))
+
+same-length-2 : tie.Need-same-length-2
+same-length-2 c = search needs
+
+returns-3 : tie.Need-returns-3
+returns-3 c = search needs
+
+of-many-requires : tie.Need-of-many-requires
+of-many-requires c κs =
+    let find = c .before .before .before .before in
+    let p = find .before .before .before .before .before .before .pre .1 in
+    ((p .grammar, viewed p _ (find .find .ensures)), omega (arith, find .before .before .if1 .left))
+
+same-length-3 : tie.Need-same-length-3
+same-length-3 c = search needs
+
+returns-4 : tie.Need-returns-4
+returns-4 c = search needs
+
 pub of-grammar-spec : {M : Type 1} → statement M
-of-grammar-spec = tie.close (tie.spec returns find-requires of-list-requires same-length returns-2)
+of-grammar-spec =
+    tie.close
+    (tie.spec
+    returns
+    find-requires
+    of-few-requires
+    same-length
+    returns-2
+    of-some-requires
+    same-length-2
+    returns-3
+    of-many-requires
+    same-length-3
+    returns-4)

@@ -8,8 +8,14 @@ use Rattle.handout.proofs.ReplayStepped.{passes, passes-bounded, copied
 use Rattle.handout.proofs.replayed.read_symbol.Statement.{statement}
 use Rattle.handout.proofs.replayed.read_symbol.Tie as tie
 
-word-requires : tie.Need-word-requires
-word-requires c κs = search needs
+mul-symbol : tie.Need-mul-symbol
+mul-symbol c = search needs
+
+shared-slice-read-symbol : tie.Need-shared-slice-read-symbol
+shared-slice-read-symbol c = search needs
+
+wide-requires : tie.Need-wide-requires
+wide-requires c κs = search needs
 
 expand-requires : tie.Need-expand-requires
 expand-requires c κs = search needs
@@ -25,22 +31,19 @@ returns c =
     let expanded = c .before .before .before .before in
     let below = expanded .before .before .before in
     let e = expanded .expand .ensures in
-    (e .0, λ g view. turned (e .1 g _ view (omega (arith, below .if1 .taken, below .before .word .ensures))))
-
-item-requires : tie.Need-item-requires
-item-requires c κs = search needs
+    (e .0, λ g view. turned (e .1 g _ view (omega (arith, below .if1 .taken, below .before .wide .ensures))))
 
 put-requires : tie.Need-put-requires
 put-requires c κs = search needs
 
-add-t10 : tie.Need-add-t10
-add-t10 c = search needs
+add-t12 : tie.Need-add-t12
+add-t12 c = search needs
 
-sub-t20 : tie.Need-sub-t20
-sub-t20 c = search needs
+sub-t23 : tie.Need-sub-t23
+sub-t23 c = search needs
 
-add-t21 : tie.Need-add-t21
-add-t21 c = search needs
+add-t24 : tie.Need-add-t24
+add-t24 c = search needs
 
 same-length-3 : tie.Need-same-length-3
 same-length-3 c = search needs
@@ -48,32 +51,33 @@ same-length-3 c = search needs
 returns-2 : tie.Need-returns-2
 returns-2 c =
     let stored = c .before .before .before .before .before in
-    let token = stored .before .before .before in
-    let start = token .before .before .before .before .before .before .before in
+    let token = stored .before .before in
+    let start = token .before .before .before .before .before .before .before .before in
     let a = start .args in
     let p = start .pre in
     let kept = p .1 .1 in
     let s = getD (a .words .now) (a .form .at) 0 in
-    let at-least : a .n ≤ s = omega (arith, token .if1 .left, token .before .word .ensures) in (
+    let at-least : a .n ≤ s = omega (arith, token .if1 .left, token .before .wide .ensures) in (
       passes-bounded kept (p .0),
       λ g view.
           let past = passes kept (p .0) g (omega (arith, view .nonterminals)) in
-          copied g (a .words .now) (a .list .now) _ _ (a .form) (a .sentence .now) s (rw (stored .before .item .ensures) at (stored .put .ensures)) past,
+          copied g (a .words .now) (a .list .now) _ _ (a .form) (a .sentence .now) s (stored .put .ensures) past,
     )
 
 pub read-symbol-spec : {M : Type 1} → statement M
 read-symbol-spec =
     tie.close
     (tie.spec
-    word-requires
+    mul-symbol
+    shared-slice-read-symbol
+    wide-requires
     expand-requires
     same-length
     same-length-2
     returns
-    item-requires
     put-requires
-    add-t10
-    sub-t20
-    add-t21
+    add-t12
+    sub-t23
+    add-t24
     same-length-3
     returns-2)
