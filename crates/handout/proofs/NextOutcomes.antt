@@ -18,6 +18,10 @@ use Rattle.grammar.specs.declared.walk.Step.the-variants as step
 use Rattle.grammar.proofs.LayoutExact.{layout-exact, in-bounds}
 use Rattle.grammar.proofs.RulesByNumber.{found-starts}
 use Rattle.grammar.proofs.TreeOfExists.{tree-of-exists}
+use Rattle.grammar.proofs.Totals.{tree-of-total}
+use Rattle.grammar.proofs.SizeIsLength.{size-is-length}
+use Rattle.grammar.proofs.Unique.{total-unique}
+use Rattle.tables.proofs.TablePlaces.{total-front}
 use Rattle.grammar.proofs.ConstructorsDiffer.{reads-not-faults}
 use Rattle.grammar.proofs.RuleNumbers.{rule-number}
 use Rattle.grammar.proofs.WalkInOrder.{walkBefore, walk-found, walk-done}
@@ -30,9 +34,9 @@ use Rattle.tables.specs.declared.TableTest.the-variants as test
 use Rattle.tables.specs.declared.TableTest.the-variants.{Its, NotIts}
 use Rattle.handout.specs.Next.{Lent, Marked, Wanted, NextPromise}
 use Rattle.handout.specs.Next.{row-4, row-5, row-6, row-7, row-8, row-9, finished, row-3, row-10, next}
-use Rattle.handout.specs.Asked.{Asked}
+use Rattle.handout.specs.Asked.{Asked, Prepared}
 use Rattle.handout.specs.Listing.{Known, Wrote}
-use Rattle.handout.specs.TreeListing.{TreeReady, TreeCounted, TreeWritten, none-so-far}
+use Rattle.handout.specs.TreeListing.{TreeReady, TreeCounted, TreeFits, TreeWritten, none-so-far}
 use Rattle.handout.specs.MarkSteps.{FirstUnused}
 use Rattle.handout.specs.declared.marks.Found.{Found}
 use Rattle.handout.specs.declared.marks.Found.the-variants.{At, Nothing}
@@ -143,9 +147,6 @@ module _ {words table : List ℕ} {rules : ℕ} (counted : (g : Grammar) → lay
 
 -- the target's tree
 module _ {words table marks : List ℕ} {r : ℕ} (a : Asked words table marks r) where
-  pub target-narrow : r ≤ 65535
-  target-narrow = omega (arith, a .target .such .rule, in-bounds words (a .grammar) .at-most-256)
-
   tree-of : (t : Tree (a .g) (a .g .start)) × TreeOf plain (a .g) r t
   tree-of =
       tree-of-exists plain (a .g) (in-bounds words (a .grammar)) (a .accepted .trees) (a .accepted .reached) r (a .target .such .rule)
@@ -160,19 +161,18 @@ module _ {words table marks : List ℕ} {r : ℕ} (a : Asked words table marks r
     tree = tree-of .1;
   }
 
--- what the lister must know: n, the start and the rules' starts are the grammar's, and r′ is the target
-pub record Prepared (words table marks starts : List ℕ) (n start r r′ : ℕ) : Type 0 where
-  pub asked : Asked words table marks r
-  pub known : Known words starts table n (asked .g)
-  pub starts-at : start ≡ asked .g .start
-  pub same : r′ ≡ r
+  -- its total stands where the code reads it
+  pub total-index : {n : ℕ} → n ≡ getD words 0 0 → 5 * n + r < 1000
+  total-index w =
+      let ok = in-bounds words (a .grammar) in
+      let words-are = ap (λ (x : List ℕ). getD x 0 0) (layout-exact words (a .g) .0 (a .grammar) .1) in
+      omega (arith, a .target .such .rule, ok .at-most-256, ok .nonterminals, words-are)
 
-module _ {words table marks starts : List ℕ} {n start r r′ : ℕ} where
-  -- so it is, where they were read from the words
-  pub prepared : (before : List ℕ) → Asked words table marks r → n ≡ getD words 0 0 → start ≡ getD words 2 0 → r′ ≡ r →
-      starts ≡ over (startsFrom 256 words walkStart) before →
-      Prepared words table marks starts n start r r′
-  prepared before a w s q e =
+module _ {words table marks starts : List ℕ} {n start r : ℕ} where
+  -- n, the start and the starts were read from the words
+  pub prepared : (before : List ℕ) → Asked words table marks r → n ≡ getD words 0 0 → start ≡ getD words 2 0 →
+      starts ≡ over (startsFrom 256 words walkStart) before → Prepared words table marks starts n start r
+  prepared before a w s e =
       let words-are = layout-exact words (a .g) .0 (a .grammar) .1 in
       record {
         asked = a;
@@ -186,39 +186,45 @@ module _ {words table marks starts : List ℕ} {n start r r′ : ℕ} where
           tabled = a .tabled;
         };
         starts-at = s ∙ ap (λ (x : List ℕ). getD x 2 0) words-are;
-        same = q;
       }
 
-  pub ready : Prepared words table marks starts n start r r′ → TreeReady words starts table n start r′
-  ready p =
-      let a = p .asked in
-      let e = p .same in
-      rw e (record {
-        g = a .g;
-        known = p .known;
-        starts-at = p .starts-at;
-        accepted = a .accepted;
-        number = a .target .such .rule;
-      })
+  pub ready : Prepared words table marks starts n start r → TreeReady words starts table n start r
+  ready p = record {
+    g = p .asked .g;
+    known = p .known;
+    starts-at = p .starts-at;
+    accepted = p .asked .accepted;
+    number = p .asked .target .such .rule;
+  }
+
+-- there is room for the tree where there is as much as the table's total says, or as was counted
+module _ {words table starts : List ℕ} {n start r : ℕ} where
+  pub fits-total : {total : ℕ} (tokens rules : List ℕ) → total ≡ getD table (5 * n + r) 0 → total ≤ length tokens →
+      total ≤ length rules → TreeFits words starts table n start r tokens rules
+  fits-total tokens rules e l m = λ g known s t tree.
+      let below = rule-number (tree .rule) in
+      let is = total-unique (tree-of-total plain tree) (known .tabled .totals r below) in
+      let stands = total-front g table r below in
+      let same = ap (λ (k : ℕ). getD table (5 * k + r) 0) (known .view .nonterminals) in
+      let size = size-is-length t in
+      (omega arith, omega arith)
+
+  pub fits-counted : {so : Lengths} (tokens rules : List ℕ) → TreeCounted words starts table n start r so →
+      so .tokens ≤ length tokens → so .rules ≤ length rules → TreeFits words starts table n start r tokens rules
+  fits-counted tokens rules counts l m = λ g known s t tree.
+      let d = counts g known s t tree .0 in
+      let e = counts g known s t tree .1 in
+      (omega arith, omega arith)
 
 -- 3, 10, or the sentence
-module _ {words table starts : List ℕ} {n start r r′ : ℕ} (before : Lent)
-    (p : Prepared words table (before .marks) starts n start r r′) where
+module _ {words table starts : List ℕ} {n start r : ℕ} (before : Lent)
+    (p : Prepared words table (before .marks) starts n start r) where
   abbrev tree : Tree (p .asked .g) (p .asked .g .start)
   tree = tree-of (p .asked) .0
 
-  own : {x x′ y y′ : List ℕ} {so : Lengths} → TreeWritten words starts table n start r′ x x′ y y′ so →
-      Wrote (sentence tree) (derivation tree) x x′ y y′ none-so-far so
-  own {x} {x′} {y} {y′} {so} written =
-      subst (λ (k : ℕ). TreeWritten words starts table n start k x x′ y y′ so) (p .same) written (p .asked .g) (p .known)
-      (p .starts-at) tree (tree-of (p .asked) .1)
-
-  -- what was counted
-  module _ {so : Lengths} (counts : TreeCounted words starts table n start r′ so) where
+  module _ {so : Lengths} (counts : TreeCounted words starts table n start r so) where
     counted : (so .tokens ≡ length (sentence tree)) × (so .rules ≡ length (derivation tree))
-    counted =
-        subst (λ (k : ℕ). TreeCounted words starts table n start k so) (p .same) counts (p .asked .g) (p .known)
-        (p .starts-at) tree (tree-of (p .asked) .1)
+    counted = counts (p .asked .g) (p .known) (p .starts-at) tree (tree-of (p .asked) .1)
 
     pub refuses-3 : length (before .tokens) < so .tokens → NextPromise words table before (Refused 3 (so .tokens)) before
     refuses-3 l = let e = counted .0 in rw e (row-3 (wanted (p .asked)) (omega arith))
@@ -228,19 +234,28 @@ module _ {words table starts : List ℕ} {n start r r′ : ℕ} (before : Lent)
     refuses-10 l m =
         let d = counted .0 in let e = counted .1 in rw e (row-10 (wanted (p .asked)) (omega arith) (omega arith))
 
-    -- what was written, and marked
-    pub hands-out : {tokens rules marks : List ℕ} {again : Lengths} → so .tokens ≤ length (before .tokens) →
-        so .rules ≤ length (before .rules) →
-        TreeWritten words starts table n start r′ (before .tokens) tokens (before .rules) rules again →
-        Marked (take (so .rules) rules) (before .marks) marks →
+  -- what was written, and marked
+  module _ {tokens rules : List ℕ} {so : Lengths} (fits : TreeFits words starts table n start r (before .tokens) (before .rules))
+      (writes : TreeWritten words starts table n start r (before .tokens) tokens (before .rules) rules so) where
+    wrote : Wrote (sentence tree) (derivation tree) (before .tokens) tokens (before .rules) rules none-so-far so
+    wrote = writes (p .asked .g) (p .known) (p .starts-at) tree (tree-of (p .asked) .1)
+
+    room : (length (sentence tree) ≤ length (before .tokens)) × (length (derivation tree) ≤ length (before .rules))
+    room = fits (p .asked .g) (p .known) (p .starts-at) tree (tree-of (p .asked) .1)
+
+    pub numbers-within : so .rules ≤ length (before .rules)
+    numbers-within = let e = wrote .more-rules in omega (arith, room .1)
+
+    pub hands-out : {marks : List ℕ} → Marked (take (so .rules) rules) (before .marks) marks →
         NextPromise words table before (Next r (so .tokens) (so .rules)) (record { marks = marks; tokens = tokens; rules = rules })
-    hands-out {tokens} {rules} {marks} l m writes marked =
-        let d = counted .0 in
-        let e = counted .1 in
-        let w = own writes in
+    hands-out {marks} marked =
         let ks = derivation tree in
-        let t : tokens ≡ over (sentence tree) (before .tokens) = w .sentence ∙ at-front _ (before .tokens) (omega arith) in
-        let u : rules ≡ over ks (before .rules) = w .derivation ∙ at-front _ (before .rules) (omega arith) in
+        let m = wrote .more-tokens in
+        let k = wrote .more-rules in
+        let d : so .tokens ≡ length (sentence tree) = omega arith in
+        let e : so .rules ≡ length ks = omega arith in
+        let t : tokens ≡ over (sentence tree) (before .tokens) = wrote .sentence ∙ at-front _ (before .tokens) (room .0) in
+        let u : rules ≡ over ks (before .rules) = wrote .derivation ∙ at-front _ (before .rules) (room .1) in
         let v : Marked (take (length ks) (over ks (before .rules))) (before .marks) marks = rw (← u, ← e) marked in
-        let k = marked-written ks (before .rules) v in
-        rw (t, u, d, e) (next (wanted (p .asked)) (omega arith) (omega arith) k)
+        let j = marked-written ks (before .rules) v in
+        rw (t, u, d, e) (next (wanted (p .asked)) (room .0) (room .1) j)

@@ -96,3 +96,9 @@ abbrev pub TreeCounted : List ℕ → List ℕ → List ℕ → ℕ → ℕ → 
 TreeCounted words starts table n start r so =
     (g : Grammar) → Known words starts table n g → start ≡ g .start → (t : Tree g (g .start)) → TreeOf plain g r t →
     (so .tokens ≡ length (sentence t)) × (so .rules ≡ length (derivation t))
+
+-- there is room for it
+abbrev pub TreeFits : List ℕ → List ℕ → List ℕ → ℕ → ℕ → ℕ → List ℕ → List ℕ → Type 0
+TreeFits words starts table n start r tokens rules =
+    (g : Grammar) → Known words starts table n g → start ≡ g .start → (t : Tree g (g .start)) → TreeOf plain g r t →
+    (length (sentence t) ≤ length tokens) × (length (derivation t) ≤ length rules)

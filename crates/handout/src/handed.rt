@@ -6,9 +6,9 @@ ghost use Rattle.grammar.specs.Words.{Grammar, R, layout, reads};
 ghost use Rattle.tables.specs.Promise.{Tested};
 ghost use Rattle.tables.specs.declared.TableTest.the-variants.{Its, NotIts};
 ghost use Rattle.handout.specs.Next.{Lent, NextPromise};
-ghost use Rattle.handout.specs.Asked.{Asked};
+ghost use Rattle.handout.specs.Asked.{Asked, Prepared};
+ghost use Rattle.handout.specs.TreeListing.{TreeFits};
 use crate::NextAnswer;
-use crate::cells::narrow;
 use crate::marks::Found;
 use crate::marks::first_unused;
 use crate::marks::mark_rules;
@@ -81,7 +81,8 @@ pub fn with_table(
     }
 }
 
-// The sentence of the target: counted first, so that 3 and 10 are known before a word is written.
+// The sentence of the target. Where both buffers have room for as many numbers as its total says, there is room for the sentence and
+// for the derivation; otherwise they are counted first.
 fn hand_out(
     words: &[u16],
     table: &[u16],
@@ -97,10 +98,66 @@ fn hand_out(
 {
     let n = word(words, 0);
     let start = word(words, 2);
-    let rule = narrow(target);
     let mut starts = [0usize; 256];
     rules::find(words, &mut starts);
-    let counted = count_tree(words, &starts, table, n, start, rule);
+    let total = word(table, 5 * n + target);
+    if sentence.len() < total {
+        return count_first(
+            words,
+            &starts,
+            table,
+            n,
+            start,
+            target,
+            marks,
+            sentence,
+            derivation,
+        );
+    }
+    if derivation.len() < total {
+        return count_first(
+            words,
+            &starts,
+            table,
+            n,
+            start,
+            target,
+            marks,
+            sentence,
+            derivation,
+        );
+    }
+    write_out(
+        words,
+        &starts,
+        table,
+        n,
+        start,
+        target,
+        marks,
+        sentence,
+        derivation,
+    )
+}
+
+// Counted first, so that 3 and 10 are known before a word is written.
+fn count_first(
+    words: &[u16],
+    starts: &[usize; 256],
+    table: &[u16],
+    n: usize,
+    start: usize,
+    target: usize,
+    marks: &mut [u8],
+    sentence: &mut [u16],
+    derivation: &mut [u16],
+) -> NextAnswer
+    requires { ⌜ Prepared (now words) (now table) (now marks) (now starts) n start target ⌝ }
+    ensures { λ r. ⌜ NextPromise (now (words .entry)) (now (table .entry))
+        (record { marks = now (marks .entry); tokens = now (sentence .entry); rules = now (derivation .entry) }) r
+        (record { marks = now (marks .exit); tokens = now (sentence .exit); rules = now (derivation .exit) }) ⌝ }
+{
+    let counted = count_tree(words, starts, table, n, start, target);
     let tokens = counted.tokens;
     let numbers = counted.rules;
     if sentence.len() < tokens {
@@ -115,7 +172,40 @@ fn hand_out(
             place: numbers,
         };
     }
-    list_tree(words, &starts, table, n, start, rule, sentence, derivation);
+    write_out(
+        words,
+        starts,
+        table,
+        n,
+        start,
+        target,
+        marks,
+        sentence,
+        derivation,
+    )
+}
+
+// The sentence, the derivation and the marks, for which there is room.
+fn write_out(
+    words: &[u16],
+    starts: &[usize; 256],
+    table: &[u16],
+    n: usize,
+    start: usize,
+    target: usize,
+    marks: &mut [u8],
+    sentence: &mut [u16],
+    derivation: &mut [u16],
+) -> NextAnswer
+    requires { ⌜ Prepared (now words) (now table) (now marks) (now starts) n start target ×
+        TreeFits (now words) (now starts) (now table) n start target (now sentence) (now derivation) ⌝ }
+    ensures { λ r. ⌜ NextPromise (now (words .entry)) (now (table .entry))
+        (record { marks = now (marks .entry); tokens = now (sentence .entry); rules = now (derivation .entry) }) r
+        (record { marks = now (marks .exit); tokens = now (sentence .exit); rules = now (derivation .exit) }) ⌝ }
+{
+    let listed = list_tree(words, starts, table, n, start, target, sentence, derivation);
+    let tokens = listed.tokens;
+    let numbers = listed.rules;
     mark_rules(derivation, numbers, marks);
     NextAnswer::Next {
         target,

@@ -159,7 +159,7 @@ pub fn list_tree(
     table: &[u16],
     n: usize,
     start: usize,
-    target: u16,
+    target: usize,
     sentence: &mut [u16],
     derivation: &mut [u16],
 ) -> Lengths
@@ -167,7 +167,8 @@ pub fn list_tree(
     ensures { λ r. ⌜ TreeWritten (now (words .entry)) (now (starts .entry)) (now (table .entry)) n start target
         (now (sentence .entry)) (now (sentence .exit)) (now (derivation .entry)) (now (derivation .exit)) r ⌝ }
 {
-    let left = word(words, starts[target as usize]);
+    let left = word(words, starts[target]);
+    let rule = narrow(target);
     let none = Lengths {
         tokens: 0,
         rules: 0,
@@ -183,7 +184,7 @@ pub fn list_tree(
         derivation,
         none,
     );
-    let under = list_rule(words, starts, table, n, target, sentence, derivation, above);
+    let under = list_rule(words, starts, table, n, rule, sentence, derivation, above);
     list_after(
         words,
         starts,
@@ -204,7 +205,7 @@ pub fn count_tree(
     table: &[u16],
     n: usize,
     start: usize,
-    target: u16,
+    target: usize,
 ) -> Lengths
     requires { ⌜ TreeReady (now words) (now starts) (now table) n start target ⌝ }
     ensures { λ r. ⌜ TreeCounted (now (words .entry)) (now (starts .entry)) (now (table .entry)) n start target r ⌝ }

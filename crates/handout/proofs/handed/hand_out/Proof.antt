@@ -1,7 +1,7 @@
--- `handout::handed::hand_out` meets its contract: 3 and 10 by what was counted, or the sentence. Assumes nothing.
+-- `handout::handed::hand_out` meets its contract: there is room by the total, or the tree is counted first. Assumes nothing.
 use borrow.Author.Needs.{needs}
 use native.Mathlib.Omega.{arith}
-use Rattle.handout.proofs.NextOutcomes.{target-narrow, prepared, ready, refuses-3, refuses-10, hands-out}
+use Rattle.handout.proofs.NextOutcomes.{total-index, prepared, fits-total}
 use Rattle.handout.proofs.handed.hand_out.Statement.{statement}
 use Rattle.handout.proofs.handed.hand_out.Tie as tie
 
@@ -11,50 +11,24 @@ word-requires c κs = search needs
 word-requires-2 : tie.Need-word-requires-2
 word-requires-2 c κs = search needs
 
-narrow-requires : tie.Need-narrow-requires
-narrow-requires c κs = target-narrow (c .before .before .before .before .before .before .before .pre)
-
 find-requires : tie.Need-find-requires
 find-requires c κs = search needs
 
-count-tree-requires : tie.Need-count-tree-requires
-count-tree-requires c κs =
-    let find = c .before in
-    let narrow = find .before .before in
-    let word = narrow .before .before in
-    let asked = word .before .before .before .before .before .before .pre in
-    let known = prepared _ asked (word .word .ensures) (narrow .before .word2 .ensures) (narrow .narrow .ensures) (find .find .ensures) in
-    ready known
+mul-word : tie.Need-mul-word
+mul-word c = let word = c .before .before .before in omega (arith, total-index (word .before .before .before .before .before .before .pre) (word .word .ensures))
 
-returns : tie.Need-returns
-returns c =
-    let find = c .before .before .before in
-    let narrow = find .before .before in
-    let word = narrow .before .before in
-    let asked = word .before .before .before .before .before .before .pre in
-    let known = prepared _ asked (word .word .ensures) (narrow .before .word2 .ensures) (narrow .narrow .ensures) (find .find .ensures) in
-    refuses-3 _ known (c .before .count-tree .ensures) (omega arith)
+add-word : tie.Need-add-word
+add-word c = let word = c .before .before .before in omega (arith, total-index (word .before .before .before .before .before .before .pre) (word .word .ensures))
 
-returns-2 : tie.Need-returns-2
-returns-2 c =
-    let find = c .before .before .before .before in
-    let narrow = find .before .before in
-    let word = narrow .before .before in
-    let asked = word .before .before .before .before .before .before .pre in
-    let known = prepared _ asked (word .word .ensures) (narrow .before .word2 .ensures) (narrow .narrow .ensures) (find .find .ensures) in
-    refuses-10 _ known (c .before .before .count-tree .ensures) (omega arith) (omega arith)
+word-requires-3 : tie.Need-word-requires-3
+word-requires-3 c κs = search needs
 
-list-tree-requires : tie.Need-list-tree-requires
-list-tree-requires c κs =
-    let find = c .before .before .before .before .before .before .before in
-    let narrow = find .before .before in
-    let word = narrow .before .before in
-    let asked = word .before .before .before .before .before .before .pre in
-    let known = prepared _ asked (word .word .ensures) (narrow .before .word2 .ensures) (narrow .narrow .ensures) (find .find .ensures) in
-    ready known
-
-mark-rules-requires : tie.Need-mark-rules-requires
-mark-rules-requires c κs = search needs
+count-first-requires : tie.Need-count-first-requires
+count-first-requires c κs =
+    let find = c .before .before .before .before .before .before in
+    let word = find .before .before .before in
+    let known = prepared _ (word .before .before .before .before .before .before .pre) (word .word .ensures) (find .before .before .word2 .ensures) (find .find .ensures) in
+    known
 
 same-length : tie.Need-same-length
 same-length c = search needs
@@ -65,19 +39,51 @@ same-length-2 c = search needs
 same-length-3 : tie.Need-same-length-3
 same-length-3 c = search needs
 
+returns : tie.Need-returns
+returns c = search needs
+
+count-first-requires-2 : tie.Need-count-first-requires-2
+count-first-requires-2 c κs =
+    let find = c .before .before .before .before .before .before .before in
+    let word = find .before .before .before in
+    let known = prepared _ (word .before .before .before .before .before .before .pre) (word .word .ensures) (find .before .before .word2 .ensures) (find .find .ensures) in
+    known
+
+same-length-4 : tie.Need-same-length-4
+same-length-4 c = search needs
+
+same-length-5 : tie.Need-same-length-5
+same-length-5 c = search needs
+
+same-length-6 : tie.Need-same-length-6
+same-length-6 c = search needs
+
+returns-2 : tie.Need-returns-2
+returns-2 c = search needs
+
+write-out-requires : tie.Need-write-out-requires
+write-out-requires c κs =
+    let enough = c .before .before .before .before in
+    let total = enough .before .before in
+    let find = total .before in
+    let word = find .before .before .before in
+    let known = prepared _ (word .before .before .before .before .before .before .pre) (word .word .ensures) (find .before .before .word2 .ensures) (find .find .ensures) in
+    let tokens-fit = enough .before .if1 .left in
+    let rules-fit = enough .if2 .left in
+    let a = word .before .before .before .before .before .before .args in
+    (known, fits-total (a .sentence .now) (a .derivation .now) (total .word3 .ensures) (omega (arith, tokens-fit)) (omega (arith, rules-fit)))
+
+same-length-7 : tie.Need-same-length-7
+same-length-7 c = search needs
+
+same-length-8 : tie.Need-same-length-8
+same-length-8 c = search needs
+
+same-length-9 : tie.Need-same-length-9
+same-length-9 c = search needs
+
 returns-3 : tie.Need-returns-3
-returns-3 c =
-    let marked = c .before .before in
-    let written = marked .before .before .before .before .before .before .before in
-    let enough = written .before .before .before .before in
-    let counted = enough .before .before in
-    let find = counted .before .before in
-    let narrow = find .before .before in
-    let word = narrow .before .before in
-    let asked = word .before .before .before .before .before .before .pre in
-    let known = prepared _ asked (word .word .ensures) (narrow .before .word2 .ensures) (narrow .narrow .ensures) (find .find .ensures) in
-    hands-out _ known (counted .count-tree .ensures) (omega (arith, enough .before .if1 .left)) (omega (arith, enough .if2 .left))
-    (written .list-tree .ensures) (marked .mark-rules .ensures)
+returns-3 c = search needs
 
 pub hand-out-spec : {M : Type 1} → statement M
 hand-out-spec =
@@ -85,14 +91,22 @@ hand-out-spec =
     (tie.spec
     word-requires
     word-requires-2
-    narrow-requires
     find-requires
-    count-tree-requires
-    returns
-    returns-2
-    list-tree-requires
-    mark-rules-requires
+    mul-word
+    add-word
+    word-requires-3
+    count-first-requires
     same-length
     same-length-2
     same-length-3
+    returns
+    count-first-requires-2
+    same-length-4
+    same-length-5
+    same-length-6
+    returns-2
+    write-out-requires
+    same-length-7
+    same-length-8
+    same-length-9
     returns-3)

@@ -1,11 +1,12 @@
 -- `handout::tree_lister::list_tree` meets its contract. Assumes nothing.
+use native.Mathlib.Omega.{arith}
 use borrow.Author.Needs.{needs}
 use Rattle.handout.proofs.TreeWrites.{target-low, first-ready, target-ready, last-ready, tree-of-written}
 use Rattle.handout.proofs.tree_lister.list_tree.Statement.{statement}
 use Rattle.handout.proofs.tree_lister.list_tree.Tie as tie
 
 mul-word : tie.Need-mul-word
-mul-word c = search needs
+mul-word c = omega (arith, target-low (c .before .before .before .before .pre))
 
 element-copy-out-word : tie.Need-element-copy-out-word
 element-copy-out-word c = target-low (c .before .before .before .before .pre)
@@ -13,24 +14,31 @@ element-copy-out-word c = target-low (c .before .before .before .before .pre)
 word-requires : tie.Need-word-requires
 word-requires c κs = search needs
 
+narrow-requires : tie.Need-narrow-requires
+narrow-requires c κs = omega (arith, target-low (c .before .before .before .before .before .before .pre))
+
 list-before-requires : tie.Need-list-before-requires
 list-before-requires c κs =
-    let word = c .before .before in
+    let word = c .before .before .before in
     first-ready (word .before .before .before .before .before .before .pre) (word .word .ensures)
 
 list-rule-requires : tie.Need-list-rule-requires
 list-rule-requires c κs =
     let first = c .before .before .before .before .before .before in
-    let word = first .before .before .before in
-    target-ready (word .before .before .before .before .before .before .pre) (word .word .ensures) (first .list-before .ensures)
+    let narrow = first .before .before .before in
+    let word = narrow .before in
+    let ready = target-ready (word .before .before .before .before .before .before .pre) (word .word .ensures) (first .list-before .ensures) in
+    rw (narrow .narrow .ensures) ready
 
 list-after-requires : tie.Need-list-after-requires
 list-after-requires c κs =
     let rule = c .before .before .before .before .before .before in
     let first = rule .before .before .before .before .before .before .before in
-    let word = first .before .before .before in
+    let narrow = first .before .before .before in
+    let word = narrow .before in
     let ready = word .before .before .before .before .before .before .pre in
-    last-ready ready (word .word .ensures) (first .list-before .ensures) (rule .list-rule .ensures)
+    let written = rw (narrow .narrow .ensures) at (rule .list-rule .ensures) in
+    last-ready ready (word .word .ensures) (first .list-before .ensures) written
 
 same-length : tie.Need-same-length
 same-length c = search needs
@@ -43,10 +51,11 @@ returns c =
     let last = c .before .before .before .before in
     let rule = last .before .before .before .before .before .before .before in
     let first = rule .before .before .before .before .before .before .before in
-    let word = first .before .before .before in
+    let narrow = first .before .before .before in
+    let word = narrow .before in
     let ready = word .before .before .before .before .before .before .pre in
-    tree-of-written ready (word .word .ensures) (first .list-before .ensures) (rule .list-rule .ensures)
-    (last .list-after .ensures)
+    let written = rw (narrow .narrow .ensures) at (rule .list-rule .ensures) in
+    tree-of-written ready (word .word .ensures) (first .list-before .ensures) written (last .list-after .ensures)
 
 pub list-tree-spec : {M : Type 1} → statement M
 list-tree-spec =
@@ -55,6 +64,7 @@ list-tree-spec =
     mul-word
     element-copy-out-word
     word-requires
+    narrow-requires
     list-before-requires
     list-rule-requires
     list-after-requires
