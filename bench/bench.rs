@@ -1,0 +1,335 @@
+//! The proved calls against the reference, in one run: each case is done by both sides, in turns, in short batches, and has the
+//! median time of each side and the median of the ratios of the pairs. Before, both sides must answer and write the same.
+//!
+//!     bench (times | growth) PAIRS MICROSECONDS DECKS
+//!
+//! prints a line for each case, its fields parted by tabs, for bench/run to lay out.
+use std::path::Path;
+use std::time::{Duration, Instant};
+
+#[allow(dead_code)]
+mod cases;
+mod sides;
+mod works;
+
+#[allow(dead_code)]
+#[path = "../tests/programs/grammars.rs"]
+mod grammars;
+#[allow(dead_code)]
+#[path = "../tests/reference/vanchiluk.rs"]
+mod reference;
+
+use cases::Order;
+use sides::{Proved, Reference, Side, DONE, NEXT};
+use works::{repeat, trace, Lent, Trace, Work};
+
+/// How long is measured: so many pairs of batches, each batch at least so long.
+struct Clock {
+    pairs: usize,
+    batch: Duration,
+}
+
+/// Nanoseconds for one work on each side, the median ratio and its quartiles.
+struct Times {
+    proved: f64,
+    reference: f64,
+    ratio: f64,
+    quartiles: (f64, f64),
+}
+
+/// One side, ready to be timed: how often it does the work in a batch.
+struct Timed<'a, S> {
+    side: S,
+    work: &'a Work,
+    lent: Lent,
+    times: usize,
+}
+
+impl<'a, S: Side> Timed<'a, S> {
+    fn new(side: S, work: &'a Work, batch: Duration) -> Timed<'a, S> {
+        let mut timed = Timed { side, work, lent: Lent::new(), times: 1 };
+        loop {
+            let began = Instant::now();
+            repeat(&mut timed.side, timed.work, &mut timed.lent, timed.times);
+            if began.elapsed() >= batch {
+                return timed;
+            }
+            timed.times *= 2;
+        }
+    }
+
+    /// Nanoseconds for one work, over a batch.
+    fn batch(&mut self) -> f64 {
+        let began = Instant::now();
+        repeat(&mut self.side, self.work, &mut self.lent, self.times);
+        began.elapsed().as_nanos() as f64 / self.times as f64
+    }
+}
+
+fn sorted(mut figures: Vec<f64>) -> Vec<f64> {
+    figures.sort_by(f64::total_cmp);
+    figures
+}
+
+impl Clock {
+    /// Both sides in turns; which comes first changes from pair to pair.
+    fn compare(&self, work: &Work) -> Times {
+        let mut proved = Timed::new(Proved, work, self.batch);
+        let mut reference = Timed::new(Reference(reference::Workspace::new()), work, self.batch);
+        let (mut ours, mut theirs) = (Vec::new(), Vec::new());
+        for pair in 0..self.pairs {
+            if pair % 2 == 0 {
+                ours.push(proved.batch());
+                theirs.push(reference.batch());
+            } else {
+                theirs.push(reference.batch());
+                ours.push(proved.batch());
+            }
+        }
+        let ratios = sorted(ours.iter().zip(&theirs).map(|(one, other)| one / other).collect());
+        let quarter = self.pairs / 4;
+        Times {
+            proved: sorted(ours)[self.pairs / 2],
+            reference: sorted(theirs)[self.pairs / 2],
+            ratio: ratios[self.pairs / 2],
+            quartiles: (ratios[quarter], ratios[self.pairs - 1 - quarter]),
+        }
+    }
+}
+
+/// What both sides do alike; they must.
+fn agreed(name: &str, work: &Work) -> Trace {
+    let proved = trace(&mut Proved, work);
+    let reference = trace(&mut Reference(reference::Workspace::new()), work);
+    assert!(proved.numbers == reference.numbers && proved.lent == reference.lent, "{name}: the two sides differ");
+    proved
+}
+
+// ---------------------------------------------------------------- grammars and their works
+
+fn packed(words: &[u16]) -> Vec<u8> {
+    let mut file = vec![0; 17417];
+    let answer = Proved.pack(words, &mut file);
+    file.truncate(answer[1] as usize);
+    file
+}
+
+fn table_of(words: &[u16]) -> Vec<u16> {
+    let mut table = vec![0; 896];
+    let answer = Proved.tables(words, &mut table);
+    assert!(answer[0] == DONE, "a grammar of the benchmark is refused");
+    table.truncate(answer[1] as usize);
+    table
+}
+
+fn rules_of(words: &[u16]) -> usize {
+    table_of(words).len() - 5 * usize::from(words[0])
+}
+
+fn suite(words: &[u16]) -> Work {
+    Work::Suite(packed(words))
+}
+
+/// The call of next whose target is this rule: the marks of the rules below are set.
+fn next_at(words: &[u16], target: usize) -> Work {
+    let mut marks = vec![0; rules_of(words)];
+    marks[..target].fill(1);
+    Work::Next { words: words.to_vec(), table: table_of(words), marks }
+}
+
+fn first_next(words: &[u16]) -> Work {
+    next_at(words, 0)
+}
+
+/// All marks set.
+fn finished(words: &[u16]) -> Work {
+    next_at(words, rules_of(words))
+}
+
+/// A table whose last total is one too large, which is refused 8.
+fn wrong_table(words: &[u16]) -> Work {
+    let mut table = table_of(words);
+    *table.last_mut().expect("a table has words") += 1;
+    Work::Next { words: words.to_vec(), table, marks: vec![0; rules_of(words)] }
+}
+
+/// The derivation that next writes for this target.
+fn replay_of(words: &[u16], target: usize) -> Work {
+    let work = next_at(words, target);
+    let traced = trace(&mut Proved, &work);
+    assert!(traced.answer[0] == NEXT, "a target of the benchmark is refused");
+    Work::Replay { words: words.to_vec(), list: traced.lent.derivation[..traced.answer[3] as usize].to_vec() }
+}
+
+/// The rule with the largest total.
+fn largest_total(words: &[u16]) -> usize {
+    let table = table_of(words);
+    let totals = &table[5 * usize::from(words[0])..];
+    let most = totals.iter().max().expect("a grammar has rules");
+    totals.iter().position(|total| total == most).expect("it is among them")
+}
+
+struct Named {
+    name: &'static str,
+    words: Vec<u16>,
+}
+
+fn read(decks: &Path, file: &str) -> Vec<u16> {
+    let file = std::fs::read(decks.join(file)).expect("a packed file");
+    let mut words = vec![0; 8707];
+    let answer = Proved.unpack(&file, &mut words);
+    assert!(answer[0] == DONE, "a deck is no packed file");
+    words.truncate(answer[1] as usize);
+    words
+}
+
+fn named(decks: &Path) -> Vec<Named> {
+    let one = |name, words| Named { name, words };
+    vec![
+        one("D", read(decks, "d.packed")),
+        one("the deck grammar", read(decks, "deck.packed")),
+        one("8,707 words", read(decks, "largest.packed")),
+        one("doubling, X10", cases::doubling(10)),
+        one("chain, forward", cases::chain(128, Order::Forward)),
+        one("chain, reverse", cases::chain(128, Order::Reverse)),
+        one("chain, random", cases::chain(128, Order::Random)),
+        one("largest output", cases::largest_output()),
+    ]
+}
+
+// ---------------------------------------------------------------- what is printed
+
+fn report(clock: &Clock, kind: &str, name: &str, words: &[u16], work: &Work) {
+    let traced = agreed(name, work);
+    let times = clock.compare(work);
+    println!(
+        "{kind}\t{name}\t{}\t{}\t{}\t{}\t{}\t{}\t{}\t{}\t{}",
+        words.len(),
+        grammars::Grammar::rule_starts(words).len(),
+        traced.sentences,
+        traced.output,
+        times.proved,
+        times.reference,
+        times.ratio,
+        times.quartiles.0,
+        times.quartiles.1,
+    );
+}
+
+fn all_times(clock: &Clock, decks: &Path) {
+    let all = named(decks);
+    for Named { name, words } in &all {
+        report(clock, "suite", name, words, &suite(words));
+    }
+    for Named { name, words } in &all[..3] {
+        report(clock, "unpack", name, words, &Work::Unpack(packed(words)));
+    }
+    for Named { name, words } in &all[..3] {
+        report(clock, "pack", name, words, &Work::Pack(words.clone()));
+    }
+    for Named { name, words } in &all {
+        report(clock, "tables", name, words, &Work::Tables(words.clone()));
+    }
+    for Named { name, words } in &all {
+        report(clock, "next, the first", name, words, &first_next(words));
+    }
+    for Named { name, words } in &all[1..3] {
+        report(clock, "next, the largest total", name, words, &next_at(words, largest_total(words)));
+    }
+    for Named { name, words } in &all[..3] {
+        report(clock, "next, Finished", name, words, &finished(words));
+    }
+    for Named { name, words } in &all {
+        report(clock, "next, refused 8", name, words, &wrong_table(words));
+    }
+    for Named { name, words } in &all {
+        report(clock, "replay", name, words, &replay_of(words, largest_total(words)));
+    }
+    for (name, (words, list)) in [
+        ("4,096 nested, left", cases::nested(true)),
+        ("4,096 nested, right", cases::nested(false)),
+        ("126,977 tokens", cases::longest_replay()),
+    ] {
+        report(clock, "replay", name, &words, &Work::Replay { words: words.clone(), list });
+    }
+}
+
+/// One call at growing sizes, all of them in each round, so that what slows the machine for a while slows all sizes: a line for
+/// each size, with the median times and the medians of the growth since the size before.
+fn grow(clock: &Clock, series: &str, call: &str, sized: &[(usize, Work)]) {
+    let mut proved = Vec::new();
+    let mut reference = Vec::new();
+    for (_, work) in sized {
+        agreed(series, work);
+        proved.push(Timed::new(Proved, work, clock.batch));
+        reference.push(Timed::new(Reference(reference::Workspace::new()), work, clock.batch));
+    }
+    let mut ours = vec![Vec::new(); sized.len()];
+    let mut theirs = ours.clone();
+    for _ in 0..clock.pairs {
+        for at in 0..sized.len() {
+            ours[at].push(proved[at].batch());
+            theirs[at].push(reference[at].batch());
+        }
+    }
+    let median = |figures: Vec<f64>| sorted(figures)[clock.pairs / 2];
+    let over = |one: &[f64], other: &[f64]| median(one.iter().zip(other).map(|(one, other)| one / other).collect());
+    for (at, (size, _)) in sized.iter().enumerate() {
+        let before = at.saturating_sub(1);
+        println!(
+            "{series}\t{call}\t{size}\t{}\t{}\t{}\t{}\t{}",
+            median(ours[at].clone()),
+            median(theirs[at].clone()),
+            over(&ours[at], &theirs[at]),
+            over(&ours[at], &ours[before]),
+            over(&theirs[at], &theirs[before]),
+        );
+    }
+}
+
+fn growth(clock: &Clock) {
+    let unpack = |words: &Vec<u16>| Work::Unpack(packed(words));
+    let pack = |words: &Vec<u16>| Work::Pack(words.clone());
+    let tables = |words: &Vec<u16>| Work::Tables(words.clone());
+    let next = |words: &Vec<u16>| first_next(words);
+    let replay = |words: &Vec<u16>| replay_of(words, 0);
+    let whole = |words: &Vec<u16>| suite(words);
+    type Make<'a> = &'a dyn Fn(&Vec<u16>) -> Work;
+    let series = |name: &str, sized: &[(usize, Vec<u16>)], calls: &[(&str, Make)]| {
+        for (call, work) in calls {
+            let works: Vec<(usize, Work)> = sized.iter().map(|(size, words)| (*size, work(words))).collect();
+            grow(clock, name, call, &works);
+        }
+    };
+
+    let words = [0, 2, 6, 14, 30].map(cases::tokens_only).map(|words| (words.len(), words));
+    series(
+        "words",
+        &words,
+        &[("unpack", &unpack), ("pack", &pack), ("tables", &tables), ("next", &next), ("replay", &replay), ("suite", &whole)],
+    );
+    let rules = [16, 32, 64, 128, 256].map(|rules| (rules, cases::shallow(rules)));
+    series("rules", &rules, &[("tables", &tables), ("next", &next), ("replay", &replay), ("suite", &whole)]);
+    let output = [6, 7, 8, 9, 10].map(cases::doubling).map(|words| (trace(&mut Proved, &first_next(&words)).output, words));
+    series("output", &output, &[("next", &next), ("replay", &replay)]);
+    for (order, of_tables, of_next) in [
+        (Order::Forward, "tables, forward", "next, forward"),
+        (Order::Reverse, "tables, reverse", "next, reverse"),
+        (Order::Random, "tables, random", "next, random"),
+    ] {
+        let links = [8, 16, 32, 64, 128].map(|links| (links, cases::chain(links, order)));
+        series("links", &links, &[(of_tables, &tables), (of_next, &next)]);
+    }
+}
+
+fn main() {
+    let arguments: Vec<String> = std::env::args().collect();
+    let number = |at: usize| arguments[at].parse().expect("a number");
+    let clock = Clock { pairs: number(2), batch: Duration::from_micros(number(3) as u64) };
+    let decks = Path::new(&arguments[4]);
+    match arguments[1].as_str() {
+        "times" => all_times(&clock, decks),
+        "growth" => growth(&clock),
+        other => panic!("{other}: times or growth"),
+    }
+}

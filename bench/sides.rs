@@ -1,0 +1,129 @@
+//! The two sides: the five calls of the archive, and those of the reference. Both are called in the same way, through a function
+//! that is not inlined, and answer four numbers.
+use crate::reference;
+
+pub const DONE: u64 = 0;
+pub const NEXT: u64 = 1;
+
+pub trait Side {
+    fn unpack(&mut self, file: &[u8], words: &mut [u16]) -> [u64; 4];
+    fn pack(&mut self, words: &[u16], file: &mut [u8]) -> [u64; 4];
+    fn tables(&mut self, words: &[u16], table: &mut [u16]) -> [u64; 4];
+    fn next(&mut self, words: &[u16], table: &[u16], marks: &mut [u8], sentence: &mut [u16], derivation: &mut [u16]) -> [u64; 4];
+    fn replay(&mut self, words: &[u16], list: &[u16], sentence: &mut [u16]) -> [u64; 4];
+}
+
+/// The archive, by include/vanchiluk.h.
+pub struct Proved;
+
+/// The reference, with the memory that it keeps between calls.
+pub struct Reference(pub reference::Workspace);
+
+#[link(name = "calls", kind = "static")]
+extern "C" {
+    pub fn vanchiluk_unpack(file: *const u8, octets: usize, words: *mut u16, room: usize, answer: *mut [u64; 4]);
+    pub fn vanchiluk_pack(words: *const u16, count: usize, file: *mut u8, room: usize, answer: *mut [u64; 4]);
+    pub fn vanchiluk_tables(words: *const u16, count: usize, table: *mut u16, room: usize, answer: *mut [u64; 4]);
+    pub fn vanchiluk_next(
+        words: *const u16,
+        words_count: usize,
+        table: *const u16,
+        table_count: usize,
+        marks: *mut u8,
+        marks_count: usize,
+        sentence: *mut u16,
+        sentence_room: usize,
+        derivation: *mut u16,
+        derivation_room: usize,
+        answer: *mut [u64; 4],
+    );
+    pub fn vanchiluk_replay(
+        words: *const u16,
+        words_count: usize,
+        list: *const u16,
+        list_count: usize,
+        sentence: *mut u16,
+        sentence_room: usize,
+        answer: *mut [u64; 4],
+    );
+}
+
+impl Side for Proved {
+    #[inline(never)]
+    fn unpack(&mut self, file: &[u8], words: &mut [u16]) -> [u64; 4] {
+        let mut answer = [0; 4];
+        unsafe { vanchiluk_unpack(file.as_ptr(), file.len(), words.as_mut_ptr(), words.len(), &mut answer) };
+        answer
+    }
+    #[inline(never)]
+    fn pack(&mut self, words: &[u16], file: &mut [u8]) -> [u64; 4] {
+        let mut answer = [0; 4];
+        unsafe { vanchiluk_pack(words.as_ptr(), words.len(), file.as_mut_ptr(), file.len(), &mut answer) };
+        answer
+    }
+    #[inline(never)]
+    fn tables(&mut self, words: &[u16], table: &mut [u16]) -> [u64; 4] {
+        let mut answer = [0; 4];
+        unsafe { vanchiluk_tables(words.as_ptr(), words.len(), table.as_mut_ptr(), table.len(), &mut answer) };
+        answer
+    }
+    #[inline(never)]
+    fn next(&mut self, words: &[u16], table: &[u16], marks: &mut [u8], sentence: &mut [u16], derivation: &mut [u16]) -> [u64; 4] {
+        let mut answer = [0; 4];
+        unsafe {
+            vanchiluk_next(
+                words.as_ptr(),
+                words.len(),
+                table.as_ptr(),
+                table.len(),
+                marks.as_mut_ptr(),
+                marks.len(),
+                sentence.as_mut_ptr(),
+                sentence.len(),
+                derivation.as_mut_ptr(),
+                derivation.len(),
+                &mut answer,
+            )
+        };
+        answer
+    }
+    #[inline(never)]
+    fn replay(&mut self, words: &[u16], list: &[u16], sentence: &mut [u16]) -> [u64; 4] {
+        let mut answer = [0; 4];
+        unsafe {
+            vanchiluk_replay(
+                words.as_ptr(),
+                words.len(),
+                list.as_ptr(),
+                list.len(),
+                sentence.as_mut_ptr(),
+                sentence.len(),
+                &mut answer,
+            )
+        };
+        answer
+    }
+}
+
+impl Side for Reference {
+    #[inline(never)]
+    fn unpack(&mut self, file: &[u8], words: &mut [u16]) -> [u64; 4] {
+        reference::unpack(file, words).numbers()
+    }
+    #[inline(never)]
+    fn pack(&mut self, words: &[u16], file: &mut [u8]) -> [u64; 4] {
+        reference::pack(words, file).numbers()
+    }
+    #[inline(never)]
+    fn tables(&mut self, words: &[u16], table: &mut [u16]) -> [u64; 4] {
+        self.0.tables(words, table).numbers()
+    }
+    #[inline(never)]
+    fn next(&mut self, words: &[u16], table: &[u16], marks: &mut [u8], sentence: &mut [u16], derivation: &mut [u16]) -> [u64; 4] {
+        self.0.next(words, table, marks, sentence, derivation).numbers()
+    }
+    #[inline(never)]
+    fn replay(&mut self, words: &[u16], list: &[u16], sentence: &mut [u16]) -> [u64; 4] {
+        self.0.replay(words, list, sentence).numbers()
+    }
+}
