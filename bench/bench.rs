@@ -1,7 +1,7 @@
-//! The proved calls against the reference, in one run: each case is done by both sides, in turns, in short batches, and has the
-//! median time of each side and the median of the ratios of the pairs. Before, both sides must answer and write the same.
+//! The proved calls against the reference, in one run: each case is done by all sides, in turns, in short batches, and has the
+//! median time of each and the median of the ratios, round by round. Before, all must answer and write the same.
 //!
-//!     bench (times | growth) PAIRS MICROSECONDS DECKS
+//!     bench (times | growth) ROUNDS MICROSECONDS DECKS
 //!
 //! prints a line for each case, its fields parted by tabs, for bench/run to lay out.
 use std::path::Path;
@@ -15,21 +15,18 @@ mod works;
 #[allow(dead_code)]
 #[path = "../tests/programs/grammars.rs"]
 mod grammars;
-#[allow(dead_code)]
-#[path = "../tests/reference/vanchiluk.rs"]
-mod reference;
 
 use cases::Order;
-use sides::{Proved, Reference, Side, DONE, NEXT};
+use sides::{Proved, Side, DONE, NEXT};
 use works::{repeat, trace, Lent, Trace, Work};
 
-/// How long is measured: so many pairs of batches, each batch at least so long.
+/// How long is measured: so many rounds, in which each side has a batch, at least so long.
 struct Clock {
-    pairs: usize,
+    rounds: usize,
     batch: Duration,
 }
 
-/// Nanoseconds for one work on each side, the median ratio and its quartiles.
+/// Nanoseconds for one work on each side, the median ratio and its quartiles. The reference is the faster one of its two.
 struct Times {
     proved: f64,
     reference: f64,
@@ -71,37 +68,91 @@ fn sorted(mut figures: Vec<f64>) -> Vec<f64> {
     figures
 }
 
-impl Clock {
-    /// Both sides in turns; which comes first changes from pair to pair.
-    fn compare(&self, work: &Work) -> Times {
-        let mut proved = Timed::new(Proved, work, self.batch);
-        let mut reference = Timed::new(Reference(reference::Workspace::new()), work, self.batch);
-        let (mut ours, mut theirs) = (Vec::new(), Vec::new());
-        for pair in 0..self.pairs {
-            if pair % 2 == 0 {
-                ours.push(proved.batch());
-                theirs.push(reference.batch());
-            } else {
-                theirs.push(reference.batch());
-                ours.push(proved.batch());
-            }
+/// The batches of one side, in the order of the rounds.
+type Batches = Vec<f64>;
+
+/// Two sides in the same rounds, batch by batch.
+fn over(one: &Batches, other: &Batches) -> Vec<f64> {
+    sorted(one.iter().zip(other).map(|(one, other)| one / other).collect())
+}
+
+fn median(figures: &[f64]) -> f64 {
+    sorted(figures.to_vec())[figures.len() / 2]
+}
+
+/// A work on all sides, ready to be timed.
+struct Race<'a> {
+    proved: Timed<'a, Proved>,
+    in_one: Timed<'a, in_one::Workspace>,
+    in_many: Timed<'a, in_many::Workspace>,
+    batches: [Batches; 3],
+}
+
+impl<'a> Race<'a> {
+    fn new(work: &'a Work, batch: Duration) -> Race<'a> {
+        Race {
+            proved: Timed::new(Proved, work, batch),
+            in_one: Timed::new(in_one::Workspace::new(), work, batch),
+            in_many: Timed::new(in_many::Workspace::new(), work, batch),
+            batches: Default::default(),
         }
-        let ratios = sorted(ours.iter().zip(&theirs).map(|(one, other)| one / other).collect());
-        let quarter = self.pairs / 4;
+    }
+
+    /// A batch of each; who begins changes from round to round.
+    fn round(&mut self) {
+        let rounds = self.batches[0].len();
+        for turn in rounds..rounds + 3 {
+            let took = match turn % 3 {
+                0 => self.proved.batch(),
+                1 => self.in_one.batch(),
+                _ => self.in_many.batch(),
+            };
+            self.batches[turn % 3].push(took);
+        }
+    }
+
+    fn proved(&self) -> &Batches {
+        &self.batches[0]
+    }
+
+    /// The faster one: that with the larger median ratio.
+    fn reference(&self) -> &Batches {
+        let [proved, in_one, in_many] = &self.batches;
+        if median(&over(proved, in_one)) < median(&over(proved, in_many)) {
+            in_many
+        } else {
+            in_one
+        }
+    }
+
+    fn times(&self) -> Times {
+        let ratios = over(self.proved(), self.reference());
+        let quarter = ratios.len() / 4;
         Times {
-            proved: sorted(ours)[self.pairs / 2],
-            reference: sorted(theirs)[self.pairs / 2],
-            ratio: ratios[self.pairs / 2],
-            quartiles: (ratios[quarter], ratios[self.pairs - 1 - quarter]),
+            proved: median(self.proved()),
+            reference: median(self.reference()),
+            ratio: median(&ratios),
+            quartiles: (ratios[quarter], ratios[ratios.len() - 1 - quarter]),
         }
     }
 }
 
-/// What both sides do alike; they must.
+impl Clock {
+    fn compare(&self, work: &Work) -> Times {
+        let mut race = Race::new(work, self.batch);
+        for _ in 0..self.rounds {
+            race.round();
+        }
+        race.times()
+    }
+}
+
+/// What all sides do alike; they must.
 fn agreed(name: &str, work: &Work) -> Trace {
     let proved = trace(&mut Proved, work);
-    let reference = trace(&mut Reference(reference::Workspace::new()), work);
-    assert!(proved.numbers == reference.numbers && proved.lent == reference.lent, "{name}: the two sides differ");
+    for reference in [trace(&mut in_one::Workspace::new(), work), trace(&mut in_many::Workspace::new(), work)] {
+        assert!(proved.numbers == reference.numbers && proved.lent == reference.lent, "{name}: the sides differ");
+    }
     proved
 }
 
@@ -257,33 +308,20 @@ fn all_times(clock: &Clock, decks: &Path) {
 /// One call at growing sizes, all of them in each round, so that what slows the machine for a while slows all sizes: a line for
 /// each size, with the median times and the medians of the growth since the size before.
 fn grow(clock: &Clock, series: &str, call: &str, sized: &[(usize, Work)]) {
-    let mut proved = Vec::new();
-    let mut reference = Vec::new();
+    let mut races = Vec::new();
     for (_, work) in sized {
         agreed(series, work);
-        proved.push(Timed::new(Proved, work, clock.batch));
-        reference.push(Timed::new(Reference(reference::Workspace::new()), work, clock.batch));
+        races.push(Race::new(work, clock.batch));
     }
-    let mut ours = vec![Vec::new(); sized.len()];
-    let mut theirs = ours.clone();
-    for _ in 0..clock.pairs {
-        for at in 0..sized.len() {
-            ours[at].push(proved[at].batch());
-            theirs[at].push(reference[at].batch());
-        }
+    for _ in 0..clock.rounds {
+        races.iter_mut().for_each(Race::round);
     }
-    let median = |figures: Vec<f64>| sorted(figures)[clock.pairs / 2];
-    let over = |one: &[f64], other: &[f64]| median(one.iter().zip(other).map(|(one, other)| one / other).collect());
     for (at, (size, _)) in sized.iter().enumerate() {
-        let before = at.saturating_sub(1);
-        println!(
-            "{series}\t{call}\t{size}\t{}\t{}\t{}\t{}\t{}",
-            median(ours[at].clone()),
-            median(theirs[at].clone()),
-            over(&ours[at], &theirs[at]),
-            over(&ours[at], &ours[before]),
-            over(&theirs[at], &theirs[before]),
-        );
+        let (race, before) = (&races[at], &races[at.saturating_sub(1)]);
+        let times = race.times();
+        let proved = median(&over(race.proved(), before.proved()));
+        let reference = median(&over(race.reference(), before.reference()));
+        println!("{series}\t{call}\t{size}\t{}\t{}\t{}\t{proved}\t{reference}", times.proved, times.reference, times.ratio);
     }
 }
 
@@ -325,7 +363,7 @@ fn growth(clock: &Clock) {
 fn main() {
     let arguments: Vec<String> = std::env::args().collect();
     let number = |at: usize| arguments[at].parse().expect("a number");
-    let clock = Clock { pairs: number(2), batch: Duration::from_micros(number(3) as u64) };
+    let clock = Clock { rounds: number(2), batch: Duration::from_micros(number(3) as u64) };
     let decks = Path::new(&arguments[4]);
     match arguments[1].as_str() {
         "times" => all_times(&clock, decks),

@@ -1,6 +1,6 @@
-//! The two sides: the five calls of the archive, and those of the reference. Both are called in the same way, through a function
-//! that is not inlined, and answer four numbers.
-use crate::reference;
+//! The sides: the five calls of the archive, and those of the reference. All are called in the same way, through a function that is
+//! not inlined, and answer four numbers. The reference is there twice, as bench/run has it compiled in two ways, of which now one
+//! and now the other is faster.
 
 pub const DONE: u64 = 0;
 pub const NEXT: u64 = 1;
@@ -15,9 +15,6 @@ pub trait Side {
 
 /// The archive, by include/vanchiluk.h.
 pub struct Proved;
-
-/// The reference, with the memory that it keeps between calls.
-pub struct Reference(pub reference::Workspace);
 
 #[link(name = "calls", kind = "static")]
 extern "C" {
@@ -105,25 +102,40 @@ impl Side for Proved {
     }
 }
 
-impl Side for Reference {
-    #[inline(never)]
-    fn unpack(&mut self, file: &[u8], words: &mut [u16]) -> [u64; 4] {
-        reference::unpack(file, words).numbers()
-    }
-    #[inline(never)]
-    fn pack(&mut self, words: &[u16], file: &mut [u8]) -> [u64; 4] {
-        reference::pack(words, file).numbers()
-    }
-    #[inline(never)]
-    fn tables(&mut self, words: &[u16], table: &mut [u16]) -> [u64; 4] {
-        self.0.tables(words, table).numbers()
-    }
-    #[inline(never)]
-    fn next(&mut self, words: &[u16], table: &[u16], marks: &mut [u8], sentence: &mut [u16], derivation: &mut [u16]) -> [u64; 4] {
-        self.0.next(words, table, marks, sentence, derivation).numbers()
-    }
-    #[inline(never)]
-    fn replay(&mut self, words: &[u16], list: &[u16], sentence: &mut [u16]) -> [u64; 4] {
-        self.0.replay(words, list, sentence).numbers()
-    }
+macro_rules! reference {
+    ($compiled:ident) => {
+        impl Side for $compiled::Workspace {
+            #[inline(never)]
+            fn unpack(&mut self, file: &[u8], words: &mut [u16]) -> [u64; 4] {
+                $compiled::unpack(file, words).numbers()
+            }
+            #[inline(never)]
+            fn pack(&mut self, words: &[u16], file: &mut [u8]) -> [u64; 4] {
+                $compiled::pack(words, file).numbers()
+            }
+            #[inline(never)]
+            fn tables(&mut self, words: &[u16], table: &mut [u16]) -> [u64; 4] {
+                $compiled::Workspace::tables(self, words, table).numbers()
+            }
+            #[inline(never)]
+            fn next(
+                &mut self,
+                words: &[u16],
+                table: &[u16],
+                marks: &mut [u8],
+                sentence: &mut [u16],
+                derivation: &mut [u16],
+            ) -> [u64; 4] {
+                $compiled::Workspace::next(self, words, table, marks, sentence, derivation).numbers()
+            }
+            #[inline(never)]
+            fn replay(&mut self, words: &[u16], list: &[u16], sentence: &mut [u16]) -> [u64; 4] {
+                $compiled::Workspace::replay(self, words, list, sentence).numbers()
+            }
+        }
+    };
 }
+
+// in one unit, and in sixteen
+reference!(in_one);
+reference!(in_many);

@@ -19,12 +19,9 @@ mod works;
 #[allow(dead_code)]
 #[path = "../tests/programs/grammars.rs"]
 mod grammars;
-#[allow(dead_code)]
-#[path = "../tests/reference/vanchiluk.rs"]
-mod reference;
 
 use cases::Order;
-use sides::{Proved, Reference, Side, DONE};
+use sides::{Proved, Side, DONE};
 use works::{trace, Work};
 
 extern "C" {
@@ -143,7 +140,7 @@ fn succeeds(small: &Small, work: &Work, expected: &works::Trace) -> bool {
 
 /// The smallest stack, in steps of 16 octets, to which stacks are aligned.
 fn smallest(small: &mut Small, work: &Work) -> usize {
-    let expected = trace(&mut Reference(reference::Workspace::new()), work);
+    let expected = trace(&mut in_one::Workspace::new(), work);
     // fails with `low` times 16 octets, succeeds with `high`; the 56 octets of the entry are less than 4 times 16
     let (mut low, mut high) = (4, ROOM / 16);
     while high - low > 1 {
