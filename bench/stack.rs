@@ -141,8 +141,8 @@ fn succeeds(small: &Small, work: &Work, expected: &works::Trace) -> bool {
 /// The smallest stack, in steps of 16 octets, to which stacks are aligned.
 fn smallest(small: &mut Small, work: &Work) -> usize {
     let expected = trace(&mut in_one::Workspace::new(), work);
-    // fails with `low` times 16 octets, succeeds with `high`; the 56 octets of the entry are less than 4 times 16
-    let (mut low, mut high) = (4, ROOM / 16);
+    // fails with `low` times 16 octets, which is less than the 56 of the entry, and succeeds with `high` times 16
+    let (mut low, mut high) = (3, ROOM / 16);
     while high - low > 1 {
         let middle = (low + high) / 2;
         small.octets = 16 * middle;
