@@ -1,16 +1,19 @@
 //! The proved calls against the reference, in one run: each case is done by all sides, in turns, in short batches, and has the
-//! median time of each and the median of the ratios, round by round. Before, all must answer and write the same.
+//! median time of each and the medians of the ratios, round by round. Before, all must answer and write the same.
 //!
 //!     bench (times | growth) ROUNDS MICROSECONDS DECKS
 //!
-//! prints a line for each case, its fields parted by tabs, for bench/run to lay out.
+//! prints a line for each case, its fields parted by tabs, for bench/run to put together.
 use std::path::Path;
-use std::time::{Duration, Instant};
 
 #[allow(dead_code)]
 mod cases;
 mod sides;
 mod works;
+
+// Moves all code by so many octets. Where the lines of the processor's memory cut through a loop, it can be slower by a third; no
+// side is to be lucky.
+std::arch::global_asm!(concat!(".section .text.layout,\"axR\"\n.skip ", env!("LAYOUT"), "\n.text"));
 
 #[allow(dead_code)]
 #[path = "../tests/programs/grammars.rs"]
@@ -20,18 +23,29 @@ use cases::Order;
 use sides::{Proved, Side, DONE, NEXT};
 use works::{repeat, trace, Lent, Trace, Work};
 
-/// How long is measured: so many rounds, in which each side has a batch, at least so long.
+/// How long is measured: so many rounds, in which each side has a batch, of at least so many nanoseconds.
 struct Clock {
     rounds: usize,
-    batch: Duration,
+    batch: f64,
 }
 
-/// Nanoseconds for one work on each side, the median ratio and its quartiles. The reference is the faster one of its two.
-struct Times {
-    proved: f64,
-    reference: f64,
-    ratio: f64,
-    quartiles: (f64, f64),
+#[repr(C)]
+struct Moment {
+    seconds: i64,
+    nanoseconds: i64,
+}
+
+extern "C" {
+    fn clock_gettime(clock: i32, moment: *mut Moment) -> i32;
+}
+
+/// The processor's time that this thread has had, in nanoseconds: what others have of it in between does not count.
+fn processor_time() -> f64 {
+    const OF_THIS_THREAD: i32 = 3;
+    let mut moment = Moment { seconds: 0, nanoseconds: 0 };
+    let failed = unsafe { clock_gettime(OF_THIS_THREAD, &mut moment) };
+    assert!(failed == 0, "no clock of the processor's time");
+    moment.seconds as f64 * 1e9 + moment.nanoseconds as f64
 }
 
 /// One side, ready to be timed: how often it does the work in a batch.
@@ -43,23 +57,19 @@ struct Timed<'a, S> {
 }
 
 impl<'a, S: Side> Timed<'a, S> {
-    fn new(side: S, work: &'a Work, batch: Duration) -> Timed<'a, S> {
+    fn new(side: S, work: &'a Work, batch: f64) -> Timed<'a, S> {
         let mut timed = Timed { side, work, lent: Lent::new(), times: 1 };
-        loop {
-            let began = Instant::now();
-            repeat(&mut timed.side, timed.work, &mut timed.lent, timed.times);
-            if began.elapsed() >= batch {
-                return timed;
-            }
+        while timed.batch() * (timed.times as f64) < batch {
             timed.times *= 2;
         }
+        timed
     }
 
     /// Nanoseconds for one work, over a batch.
     fn batch(&mut self) -> f64 {
-        let began = Instant::now();
+        let began = processor_time();
         repeat(&mut self.side, self.work, &mut self.lent, self.times);
-        began.elapsed().as_nanos() as f64 / self.times as f64
+        (processor_time() - began) / self.times as f64
     }
 }
 
@@ -89,7 +99,7 @@ struct Race<'a> {
 }
 
 impl<'a> Race<'a> {
-    fn new(work: &'a Work, batch: Duration) -> Race<'a> {
+    fn new(work: &'a Work, batch: f64) -> Race<'a> {
         Race {
             proved: Timed::new(Proved, work, batch),
             in_one: Timed::new(in_one::Workspace::new(), work, batch),
@@ -111,40 +121,25 @@ impl<'a> Race<'a> {
         }
     }
 
-    fn proved(&self) -> &Batches {
-        &self.batches[0]
+    /// The median time of each side.
+    fn times(&self) -> [f64; 3] {
+        [0, 1, 2].map(|side| median(&self.batches[side]))
     }
 
-    /// The faster one: that with the larger median ratio.
-    fn reference(&self) -> &Batches {
-        let [proved, in_one, in_many] = &self.batches;
-        if median(&over(proved, in_one)) < median(&over(proved, in_many)) {
-            in_many
-        } else {
-            in_one
-        }
+    /// The median ratio of each side's batches to the same side's in another race.
+    fn since(&self, before: &Race) -> [f64; 3] {
+        [0, 1, 2].map(|side| median(&over(&self.batches[side], &before.batches[side])))
     }
 
-    fn times(&self) -> Times {
-        let ratios = over(self.proved(), self.reference());
-        let quarter = ratios.len() / 4;
-        Times {
-            proved: median(self.proved()),
-            reference: median(self.reference()),
-            ratio: median(&ratios),
-            quartiles: (ratios[quarter], ratios[ratios.len() - 1 - quarter]),
-        }
+    /// The median ratio of Rattle's batches to each side's.
+    fn ratios(&self) -> [f64; 3] {
+        [0, 1, 2].map(|side| median(&over(&self.batches[0], &self.batches[side])))
     }
 }
 
-impl Clock {
-    fn compare(&self, work: &Work) -> Times {
-        let mut race = Race::new(work, self.batch);
-        for _ in 0..self.rounds {
-            race.round();
-        }
-        race.times()
-    }
+/// The fields that stand for three sides.
+fn fields(figures: [f64; 3]) -> String {
+    figures.map(|figure| figure.to_string()).join("\t")
 }
 
 /// What all sides do alike; they must.
@@ -252,18 +247,18 @@ fn named(decks: &Path) -> Vec<Named> {
 
 fn report(clock: &Clock, kind: &str, name: &str, words: &[u16], work: &Work) {
     let traced = agreed(name, work);
-    let times = clock.compare(work);
+    let mut race = Race::new(work, clock.batch);
+    for _ in 0..clock.rounds {
+        race.round();
+    }
     println!(
-        "{kind}\t{name}\t{}\t{}\t{}\t{}\t{}\t{}\t{}\t{}\t{}",
+        "{kind}\t{name}\t{}\t{}\t{}\t{}\t{}\t{}",
         words.len(),
         grammars::Grammar::rule_starts(words).len(),
         traced.sentences,
         traced.output,
-        times.proved,
-        times.reference,
-        times.ratio,
-        times.quartiles.0,
-        times.quartiles.1,
+        fields(race.times()),
+        fields(race.ratios()),
     );
 }
 
@@ -317,11 +312,8 @@ fn grow(clock: &Clock, series: &str, call: &str, sized: &[(usize, Work)]) {
         races.iter_mut().for_each(Race::round);
     }
     for (at, (size, _)) in sized.iter().enumerate() {
-        let (race, before) = (&races[at], &races[at.saturating_sub(1)]);
-        let times = race.times();
-        let proved = median(&over(race.proved(), before.proved()));
-        let reference = median(&over(race.reference(), before.reference()));
-        println!("{series}\t{call}\t{size}\t{}\t{}\t{}\t{proved}\t{reference}", times.proved, times.reference, times.ratio);
+        let since = races[at].since(&races[at.saturating_sub(1)]);
+        println!("{series}\t{call}\t{size}\t{}\t{}", fields(races[at].times()), fields(since));
     }
 }
 
@@ -363,7 +355,7 @@ fn growth(clock: &Clock) {
 fn main() {
     let arguments: Vec<String> = std::env::args().collect();
     let number = |at: usize| arguments[at].parse().expect("a number");
-    let clock = Clock { rounds: number(2), batch: Duration::from_micros(number(3) as u64) };
+    let clock = Clock { rounds: number(2), batch: 1000.0 * number(3) as f64 };
     let decks = Path::new(&arguments[4]);
     match arguments[1].as_str() {
         "times" => all_times(&clock, decks),
