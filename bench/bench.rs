@@ -247,6 +247,13 @@ fn named(decks: &Path) -> Vec<Named> {
 
 fn report(clock: &Clock, kind: &str, name: &str, words: &[u16], work: &Work) {
     let traced = agreed(name, work);
+    let as_named = match kind {
+        "suite" | "next, Finished" => traced.answer == [2, 0, 0, 0],
+        "next, refused 8" => traced.answer == [3, 8, 0, 0],
+        "next, the first" | "next, the largest total" => traced.answer[0] == NEXT,
+        _ => traced.answer[0] == DONE,
+    };
+    assert!(as_named, "{kind}, {name}: answers {:?}", traced.answer);
     let mut race = Race::new(work, clock.batch);
     for _ in 0..clock.rounds {
         race.round();
