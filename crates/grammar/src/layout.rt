@@ -168,7 +168,7 @@ fn first_unfit(words: &[u16], limit: usize, from: usize, end: usize) -> usize
 {
     let mut i = from;
     while i < end {
-        if limit <= word(words, i) {
+        if limit <= words[i] as usize {
             return i;
         }
         i += 1;

@@ -4,6 +4,7 @@ ghost use mathlib.Core.List.{[], _∷_};
 ghost use lib.ListN.{length, take};
 ghost use Rattle.handout.specs.Next.{Marked};
 ghost use Rattle.handout.specs.MarkSteps.{FirstUnused};
+use crate::cells::wide;
 
 // The lowest unused rule, where there is one.
 pub enum Found {
@@ -27,13 +28,12 @@ pub fn first_unused(marks: &[u8], rules: usize) -> Found
 }
 
 // Sets the mark of the rule to 1 where it is 0; past the marks' end nothing.
-fn mark_one(marks: &mut [u8], rule: u16)
+fn mark_one(marks: &mut [u8], rule: usize)
     ensures { λ _. ⌜ Marked (rule ∷ []) (now (marks .entry)) (now (marks .exit)) ⌝ }
 {
-    let r = rule as usize;
-    if r < marks.len() {
-        if marks[r] == 0 {
-            marks[r] = 1;
+    if rule < marks.len() {
+        if marks[rule] == 0 {
+            marks[rule] = 1;
         }
     }
 }
@@ -45,7 +45,7 @@ pub fn mark_rules(derivation: &[u16], count: usize, marks: &mut [u8])
 {
     let mut i = 0;
     while i < count {
-        mark_one(marks, derivation[i]);
+        mark_one(marks, wide(derivation[i]));
         i += 1;
     }
 }

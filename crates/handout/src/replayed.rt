@@ -297,7 +297,7 @@ fn of_some(
     )
 }
 
-// Any list. There is little room aside: the stack is to stay small.
+// Any list.
 fn of_many(
     words: &[u16],
     starts: &[usize; 256],
@@ -311,7 +311,7 @@ fn of_many(
 {
     let mut ats = [0u16; MOST_NUMBERS];
     let mut lefts = [0u16; MOST_NUMBERS];
-    let mut aside = [0u16; 256];
+    let mut aside = [0u16; MOST_NUMBERS];
     of_list(
         words,
         starts,

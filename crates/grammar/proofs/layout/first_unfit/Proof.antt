@@ -17,8 +17,14 @@ abbrev μ-loop : tie.MeasureT-loop
 loop-holds : tie.Need-loop-holds Inv-loop μ-loop
 loop-holds c = (search needs, search needs, λ j a b. absurd (omega arith))
 
-word-requires : tie.Need-word-requires Inv-loop μ-loop
-word-requires c κs = search needs
+mul-if1 : tie.Need-mul-if1 Inv-loop μ-loop
+mul-if1 c = search needs
+
+shared-slice-read-if1 : tie.Need-shared-slice-read-if1 Inv-loop μ-loop
+shared-slice-read-if1 c = search needs
+
+cast-if1 : tie.Need-cast-if1 Inv-loop μ-loop
+cast-if1 c = omega (arith, c .shared-slice-known .given (c .before .before .loop .i))
 
 returns : tie.Need-returns Inv-loop μ-loop
 returns c =
@@ -33,7 +39,7 @@ loop-less c = search needs
 
 loop-again : tie.Need-loop-again Inv-loop μ-loop
 loop-again c =
-    let a = c .before .before .before .before .before .args in
+    let a = c .before .before .before .before .args in
     let l = c .before .before .before .loop in
     let fit : ℕ → Type 0 = λ k. a .from ≤ k → getD (a .words .now) k 0 < a .limit in
     (search needs, search needs, λ j f h. below-more fit (l .i) (λ k m g. l .inv .2 k g m) (λ g. omega arith) j h f)
@@ -44,4 +50,4 @@ returns-2 c =
     record { not-before = omega arith; not-after = omega arith; fit = l .inv .2; unfit = λ h. absurd (omega arith) }
 
 pub first-unfit-spec : {M : Type 1} → statement M
-first-unfit-spec = tie.close (tie.spec Inv-loop μ-loop loop-holds word-requires returns add-i loop-less loop-again returns-2)
+first-unfit-spec = tie.close (tie.spec Inv-loop μ-loop loop-holds mul-if1 shared-slice-read-if1 cast-if1 returns add-i loop-less loop-again returns-2)

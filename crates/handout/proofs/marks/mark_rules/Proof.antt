@@ -19,11 +19,14 @@ abbrev μ-loop : tie.MeasureT-loop
 loop-holds : tie.Need-loop-holds Inv-loop μ-loop
 loop-holds c = (search needs, marked-none _)
 
-mul-mark-one : tie.Need-mul-mark-one Inv-loop μ-loop
-mul-mark-one c = search needs
+mul-wide : tie.Need-mul-wide Inv-loop μ-loop
+mul-wide c = search needs
 
-shared-slice-read-mark-one : tie.Need-shared-slice-read-mark-one Inv-loop μ-loop
-shared-slice-read-mark-one c = search needs
+shared-slice-read-wide : tie.Need-shared-slice-read-wide Inv-loop μ-loop
+shared-slice-read-wide c = search needs
+
+wide-requires : tie.Need-wide-requires Inv-loop μ-loop
+wide-requires c κs = search needs
 
 mark-one-requires : tie.Need-mark-one-requires Inv-loop μ-loop
 mark-one-requires c κs = search needs
@@ -36,8 +39,11 @@ loop-less c = search needs
 
 loop-again : tie.Need-loop-again Inv-loop μ-loop
 loop-again c =
-    let at = c .before .before .before .before .before .before .loop in
-    (search needs, marked-next _ (at .i) (omega arith) (at .inv .1) (c .before .before .mark-one .ensures))
+    let marked = c .before .before in
+    let read = marked .before in
+    let at = read .before .before .before .before .loop in
+    let one = rw (read .wide .ensures) at (marked .mark-one .ensures) in
+    (search needs, marked-next _ (at .i) (omega arith) (at .inv .1) one)
 
 same-length : tie.Need-same-length Inv-loop μ-loop
 same-length c = search needs
@@ -54,8 +60,9 @@ mark-rules-spec =
     Inv-loop
     μ-loop
     loop-holds
-    mul-mark-one
-    shared-slice-read-mark-one
+    mul-wide
+    shared-slice-read-wide
+    wide-requires
     mark-one-requires
     add-i
     loop-less
