@@ -28,8 +28,8 @@ returns : tie.Need-returns
 returns c =
     let marked = c .before .before in
     let listed = marked .before .before .before .before .before .before .before in
-    let p = listed .before .before .before .before .before .before .before .before .pre in
-    hands-out _ (p .0) (p .1) (listed .list-tree .ensures) (marked .mark-rules .ensures)
+    let start = listed .before .before .before .before .before .before .before .before in
+    hands-out _ (start .pre .0) (start .pre .1) (listed .list-tree .ensures) (marked .mark-rules .ensures)
 
 pub write-out-spec : {M : Type 1} → statement M
 write-out-spec =
