@@ -1,5 +1,6 @@
 // Handing out sentences: `next` and `replay`. What they promise is specs/Next and specs/Replay; what calls of `next` come to
 // from clear marks on is specs/Night.
+mod answered;
 mod cells;
 mod handed;
 mod lister;
@@ -71,6 +72,6 @@ pub fn replay(words: &[u16], list: &[u16], sentence: &mut [u16]) -> ReplayAnswer
             terminals: _,
             start: _,
             rules,
-        } => replayed::of_grammar(words, nonterminals, rules, list, sentence),
+        } => answered::of_grammar(words, nonterminals, rules, list, sentence),
     }
 }

@@ -4,26 +4,13 @@ ghost use mathlib.Core.Path.{_≡_};
 ghost use Prim.Native.Nat.{ℕ, _+_, _-_, _≤_, _<_};
 ghost use lib.ListN.{length, getD};
 ghost use Rattle.grammar.specs.Words.{Grammar};
-ghost use Rattle.tables.specs.Rows.{Read};
 ghost use Rattle.tables.specs.View.{View};
-ghost use Rattle.handout.specs.Replay.{Replay};
 ghost use Rattle.handout.specs.ReplaySteps.{Ground, Kept, Bounded, Turned, Moved, Ran};
 ghost use Rattle.handout.specs.ReplaySteps.{waitingAbove};
-use crate::ReplayAnswer;
-use crate::cells::copy_front;
 use crate::cells::narrow;
 use crate::cells::put;
 use crate::cells::wide;
-use grammar::rules;
 use grammar::words::word;
-
-// The most numbers that a replayed list has.
-pub const MOST_NUMBERS: usize = 4096;
-
-// Shorter lists, for which less room is cleared.
-const FEW_NUMBERS: usize = 64;
-
-const SOME_NUMBERS: usize = 512;
 
 // What is left of the form: of the right side that is read, where the next symbol is and how many are left, and how many others
 // wait; with it how many numbers are used and how many tokens are passed.
@@ -176,7 +163,7 @@ fn step(
 }
 
 // Steps from the start, which is the word 2, to the end; the tokens are stored as far as there is room.
-fn run(
+pub fn run(
     words: &[u16],
     starts: &[usize; 256],
     n: usize,
@@ -209,157 +196,6 @@ fn run(
             Move::Stop { place } => {
                 return Outcome::Stopped { place };
             }
-        }
-    }
-}
-
-// 12, and what follows.
-pub fn of_grammar(
-    words: &[u16],
-    n: usize,
-    rules: usize,
-    list: &[u16],
-    sentence: &mut [u16],
-) -> ReplayAnswer
-    requires { ⌜ ((start : ℕ) × Read (now words) n start rules) ⌝ }
-    ensures { λ r. ⌜ Replay (now (words .entry)) (now (list .entry)) (now (sentence .entry)) r (now (sentence .exit)) ⌝ }
-{
-    if MOST_NUMBERS < list.len() {
-        return ReplayAnswer::Refused {
-            number: answers::LONG_LIST,
-            place: MOST_NUMBERS,
-        };
-    }
-    let mut starts = [0usize; 256];
-    rules::find(words, &mut starts);
-    if list.len() <= FEW_NUMBERS {
-        return of_few(words, &starts, n, rules, list, sentence);
-    }
-    if list.len() <= SOME_NUMBERS {
-        return of_some(words, &starts, n, rules, list, sentence);
-    }
-    of_many(words, &starts, n, rules, list, sentence)
-}
-
-// A short list, with little room to clear.
-fn of_few(
-    words: &[u16],
-    starts: &[usize; 256],
-    n: usize,
-    rules: usize,
-    list: &[u16],
-    sentence: &mut [u16],
-) -> ReplayAnswer
-    requires { ⌜ ((g : Grammar) × View (now words) (now starts) n rules g) × (length (now list) ≤ 64) ⌝ }
-    ensures { λ r. ⌜ Replay (now (words .entry)) (now (list .entry)) (now (sentence .entry)) r (now (sentence .exit)) ⌝ }
-{
-    let mut ats = [0u16; FEW_NUMBERS];
-    let mut lefts = [0u16; FEW_NUMBERS];
-    let mut aside = [0u16; 256];
-    of_list(
-        words,
-        starts,
-        n,
-        rules,
-        list,
-        &mut ats,
-        &mut lefts,
-        &mut aside,
-        sentence,
-    )
-}
-
-// A longer one, of which the sentence can be long.
-fn of_some(
-    words: &[u16],
-    starts: &[usize; 256],
-    n: usize,
-    rules: usize,
-    list: &[u16],
-    sentence: &mut [u16],
-) -> ReplayAnswer
-    requires { ⌜ ((g : Grammar) × View (now words) (now starts) n rules g) × (length (now list) ≤ 512) ⌝ }
-    ensures { λ r. ⌜ Replay (now (words .entry)) (now (list .entry)) (now (sentence .entry)) r (now (sentence .exit)) ⌝ }
-{
-    let mut ats = [0u16; SOME_NUMBERS];
-    let mut lefts = [0u16; SOME_NUMBERS];
-    let mut aside = [0u16; MOST_NUMBERS];
-    of_list(
-        words,
-        starts,
-        n,
-        rules,
-        list,
-        &mut ats,
-        &mut lefts,
-        &mut aside,
-        sentence,
-    )
-}
-
-// Any list.
-fn of_many(
-    words: &[u16],
-    starts: &[usize; 256],
-    n: usize,
-    rules: usize,
-    list: &[u16],
-    sentence: &mut [u16],
-) -> ReplayAnswer
-    requires { ⌜ ((g : Grammar) × View (now words) (now starts) n rules g) × (length (now list) ≤ 4096) ⌝ }
-    ensures { λ r. ⌜ Replay (now (words .entry)) (now (list .entry)) (now (sentence .entry)) r (now (sentence .exit)) ⌝ }
-{
-    let mut ats = [0u16; MOST_NUMBERS];
-    let mut lefts = [0u16; MOST_NUMBERS];
-    let mut aside = [0u16; MOST_NUMBERS];
-    of_list(
-        words,
-        starts,
-        n,
-        rules,
-        list,
-        &mut ats,
-        &mut lefts,
-        &mut aside,
-        sentence,
-    )
-}
-
-// 11, 3, and the sentence. The tokens are kept aside until 11 and 3 are passed; a sentence that is longer than the room aside takes
-// a second run.
-fn of_list(
-    words: &[u16],
-    starts: &[usize; 256],
-    n: usize,
-    rules: usize,
-    list: &[u16],
-    ats: &mut [u16],
-    lefts: &mut [u16],
-    aside: &mut [u16],
-    sentence: &mut [u16],
-) -> ReplayAnswer
-    requires { ⌜ ((g : Grammar) × View (now words) (now starts) n rules g) × ((length (now list) ≤ 4096) ×
-        ((length (now list) ≤ length (now ats)) × (length (now list) ≤ length (now lefts)))) ⌝ }
-    ensures { λ r. ⌜ Replay (now (words .entry)) (now (list .entry)) (now (sentence .entry)) r (now (sentence .exit)) ⌝ }
-{
-    match run(words, starts, n, rules, list, ats, lefts, aside) {
-        Outcome::Stopped { place } => ReplayAnswer::Refused {
-            number: answers::NO_DERIVATION,
-            place,
-        },
-        Outcome::Sentence { tokens } => {
-            if sentence.len() < tokens {
-                return ReplayAnswer::Refused {
-                    number: answers::TOO_SHORT,
-                    place: tokens,
-                };
-            }
-            if tokens <= aside.len() {
-                copy_front(aside, tokens, sentence);
-                return ReplayAnswer::Done(tokens);
-            }
-            run(words, starts, n, rules, list, ats, lefts, sentence);
-            ReplayAnswer::Done(tokens)
         }
     }
 }

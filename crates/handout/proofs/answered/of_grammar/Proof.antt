@@ -1,10 +1,10 @@
--- `handout::replayed::of_grammar` meets its contract: row 12, or what the list comes to. Assumes nothing.
+-- `handout::answered::of_grammar` meets its contract: row 12, or what the list comes to. Assumes nothing.
 use borrow.Author.Needs.{needs}
 use native.Mathlib.Omega.{arith}
 use Rattle.tables.proofs.Outcomes.{viewed}
 use Rattle.handout.specs.Replay.{row-12}
-use Rattle.handout.proofs.replayed.of_grammar.Statement.{statement}
-use Rattle.handout.proofs.replayed.of_grammar.Tie as tie
+use Rattle.handout.proofs.answered.of_grammar.Statement.{statement}
+use Rattle.handout.proofs.answered.of_grammar.Tie as tie
 
 returns : tie.Need-returns
 returns c = row-12 (c .before .before .before .before .pre .1 .is) (omega arith)

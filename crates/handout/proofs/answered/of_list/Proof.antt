@@ -1,11 +1,11 @@
--- `handout::replayed::of_list` meets its contract: the run says the row; what it kept aside is written, or a second run writes.
+-- `handout::answered::of_list` meets its contract: the run says the row; what it kept aside is written, or a second run writes.
 -- Assumes nothing.
 use borrow.Author.Needs.{needs}
 use native.Mathlib.Omega.{arith}
 use mathlib.Core.Path.{refl}
 use Rattle.handout.proofs.ReplayRun.{ground, three-words, answers-11, answers-3, answers-aside, answers-done}
-use Rattle.handout.proofs.replayed.of_list.Statement.{statement}
-use Rattle.handout.proofs.replayed.of_list.Tie as tie
+use Rattle.handout.proofs.answered.of_list.Statement.{statement}
+use Rattle.handout.proofs.answered.of_list.Tie as tie
 
 run-requires : tie.Need-run-requires
 run-requires c κs =
