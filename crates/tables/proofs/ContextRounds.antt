@@ -139,6 +139,12 @@ module _ {ws starts sizes vs : List ℕ} {n rules : ℕ} {g : Grammar} (known : 
         λ C u q. step-still q vs us (known .sized k C u q) room (step-of q) e .1,
       )
 
+  -- out of turn too
+  pub context-kept : {B k f size : ℕ} {w us us′ : List ℕ} → k < rules → 128 ≤ length us → B ≡ getD ws (getD starts k 0) 0 →
+      w ≡ rightAt ws (getD starts k 0) → size ≡ getD sizes k 0 → ContextStep n size vs B w us us′ f →
+      ContextsSound g us → ContextsSound g us′
+  context-kept h long e e′ e″ step = context-turn h long (rw (e, e′, e″) at step) .keeps
+
 -- A ROUND, after its first i turns: from the figures us to us′
 module _ (ws starts : List ℕ) (n rules : ℕ) (sizes vs : List ℕ) where
   abbrev pub ContextsSoFar : Bool → ℕ → List ℕ → List ℕ → ℕ → Type 0

@@ -31,7 +31,7 @@ pub step-one : {A n k : ℕ} {w vs us : List ℕ} → LeastStep A w n vs us k �
 step-one (not-yet h) = omega arith
 step-one (tried x s l) = lowered-once l
 
-step-length : {A n k : ℕ} {w vs us : List ℕ} → LeastStep A w n vs us k → length us ≡ length vs
+pub step-length : {A n k : ℕ} {w vs us : List ℕ} → LeastStep A w n vs us k → length us ≡ length vs
 step-length (not-yet h) = refl
 step-length (tried x s l) = lowered-length l
 
@@ -76,6 +76,11 @@ module _ {ws starts : List ℕ} {n rules : ℕ} {g : Grammar} (view : View ws st
       still (A, w, r) e =
           let room = viewed-room view long in
           (step-still g r vs room (step-of r) e .0, λ B u q. step-still g q vs room (step-of q) e .1)
+
+  -- out of turn too
+  pub least-kept : {A k m : ℕ} {w vs us : List ℕ} → k < rules → 128 ≤ length vs → A ≡ getD ws (getD starts k 0) 0 →
+      w ≡ rightAt ws (getD starts k 0) → LeastStep A w n vs us m → LeastsSound g vs → LeastsSound g us
+  least-kept h long e e′ step = least-turn h long (rw (e, e′) at step) .keeps
 
 -- A ROUND, after its first i turns: from the figures vs to us
 module _ (ws starts : List ℕ) (n rules : ℕ) where

@@ -59,7 +59,7 @@ fn lower_contexts(
 }
 
 // The same for a rule of a left side that has a context.
-fn context_of_rule(
+pub fn context_of_rule(
     left: usize,
     symbols: &[u16],
     n: usize,

@@ -46,7 +46,7 @@ fn rule_size(symbols: &[u16], n: usize, leasts: &[u16]) -> Size
 }
 
 // Lowers the least of a rule's left side to the rule's size; how many figures fell.
-fn lower_least(left: usize, symbols: &[u16], n: usize, leasts: &mut [u16]) -> usize
+pub fn lower_least(left: usize, symbols: &[u16], n: usize, leasts: &mut [u16]) -> usize
     requires { ⌜ length (now symbols) ≤ 65535 ⌝ }
     ensures { λ r. ⌜ LeastStep left (now (symbols .entry)) n (now (leasts .entry)) (now (leasts .exit)) r ⌝ }
 {

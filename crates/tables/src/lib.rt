@@ -1,6 +1,7 @@
 // The shortest-tree tables of a grammar: `tables` works one out, by plain rounds over all rules, and `test` says of a lent one
 // whether it is the grammar's, by one pass and no rounds. What the words of a table mean is specs/Table; what the calls answer is
 // specs/Promise.
+mod chains;
 mod choices;
 mod contexts;
 mod figures;

@@ -1,0 +1,96 @@
+-- `tables::chains::follow_least` meets its contract: whichever rule is tried, the leasts stay sound. The measure is
+-- the sum of the figures, which falls with each rule but the last. Assumes nothing.
+use Prim.Native.Nat.{_≤_}
+use mathlib.Core.Path.{_≡_, refl}
+use native.Mathlib.Omega.{arith}
+use lib.ListN.{length}
+use Rattle.grammar.specs.Words.{Grammar}
+use Rattle.tables.specs.Figures.{weight, LeastsSound}
+use Rattle.tables.specs.View.{View}
+use Rattle.tables.proofs.LeastRounds.{step-fallen, least-kept}
+use borrow.Author.Needs.{needs}
+use Rattle.tables.proofs.chains.follow_least.Statement.{statement}
+use Rattle.tables.proofs.chains.follow_least.Tie as tie
+
+abbrev Inv-loop : tie.InvT-loop
+Inv-loop words starts n rules users from leasts₀ r₀ leasts r =
+    (length leasts ≡ length leasts₀) ×
+    ((g : Grammar) → View words starts n rules g → LeastsSound g leasts₀ → LeastsSound g leasts)
+
+abbrev μ-loop : tie.MeasureT-loop
+μ-loop words starts n rules users from leasts₀ r₀ leasts r = weight leasts
+
+loop-holds : tie.Need-loop-holds Inv-loop μ-loop
+loop-holds c = (refl, λ g view sound. sound)
+
+mul-at : tie.Need-mul-at Inv-loop μ-loop
+mul-at c = search needs
+
+element-copy-out-at : tie.Need-element-copy-out-at Inv-loop μ-loop
+element-copy-out-at c = search needs
+
+word-requires : tie.Need-word-requires Inv-loop μ-loop
+word-requires c κs = search needs
+
+right-requires : tie.Need-right-requires Inv-loop μ-loop
+right-requires c κs = search needs
+
+lower-least-requires : tie.Need-lower-least-requires Inv-loop μ-loop
+lower-least-requires c κs = search needs
+
+same-length : tie.Need-same-length Inv-loop μ-loop
+same-length c = search needs
+
+returns : tie.Need-returns Inv-loop μ-loop
+returns c =
+    let lowered = c .before .before .before in
+    let right = lowered .before .before in
+    let word = right .before in
+    let at = word .before .before .before in
+    λ g view sound.
+    least-kept view (omega arith) (omega (arith, at .loop .inv .0)) (word .word .ensures) (right .right .ensures .0)
+    (lowered .lower-least .ensures) (at .loop .inv .1 g view sound)
+
+figure-at-requires : tie.Need-figure-at-requires Inv-loop μ-loop
+figure-at-requires c κs = search needs
+
+loop-less : tie.Need-loop-less Inv-loop μ-loop
+loop-less c = omega (arith, step-fallen (c .before .before .before .before .lower-least .ensures), c .before .if1 .left)
+
+loop-again : tie.Need-loop-again Inv-loop μ-loop
+loop-again c =
+    let lowered = c .before .before .before .before in
+    let right = lowered .before .before in
+    let word = right .before in
+    let at = word .before .before .before in (
+      search needs,
+      λ g view sound.
+          least-kept view (omega arith) (omega (arith, at .loop .inv .0)) (word .word .ensures) (right .right .ensures .0)
+          (lowered .lower-least .ensures) (at .loop .inv .1 g view sound),
+    )
+
+same-length-2 : tie.Need-same-length-2 Inv-loop μ-loop
+same-length-2 c = search needs
+
+returns-2 : tie.Need-returns-2 Inv-loop μ-loop
+returns-2 c = search needs
+
+pub follow-least-spec : {M : Type 1} → statement M
+follow-least-spec =
+    tie.close
+    (tie.spec
+    Inv-loop
+    μ-loop
+    loop-holds
+    mul-at
+    element-copy-out-at
+    word-requires
+    right-requires
+    lower-least-requires
+    same-length
+    returns
+    figure-at-requires
+    loop-less
+    loop-again
+    same-length-2
+    returns-2)

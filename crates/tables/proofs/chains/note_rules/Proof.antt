@@ -1,0 +1,60 @@
+-- `tables::chains::note_rules` ends: the measure is what is left of the rules. Assumes nothing.
+use Prim.Native.Nat.{_-_}
+use mathlib.Core.Path.{_≡_, refl}
+use lib.ListN.{length}
+use borrow.Author.Needs.{needs}
+use Rattle.tables.proofs.chains.note_rules.Statement.{statement}
+use Rattle.tables.proofs.chains.note_rules.Tie as tie
+
+abbrev Inv-loop : tie.InvT-loop
+Inv-loop words starts rules owned₀ r₀ owned r = length owned ≡ length owned₀
+
+abbrev μ-loop : tie.MeasureT-loop
+μ-loop words starts rules owned₀ r₀ owned r = rules - r
+
+loop-holds : tie.Need-loop-holds Inv-loop μ-loop
+loop-holds c = refl
+
+mul-word : tie.Need-mul-word Inv-loop μ-loop
+mul-word c = search needs
+
+element-copy-out-word : tie.Need-element-copy-out-word Inv-loop μ-loop
+element-copy-out-word c = search needs
+
+word-requires : tie.Need-word-requires Inv-loop μ-loop
+word-requires c κs = search needs
+
+note-requires : tie.Need-note-requires Inv-loop μ-loop
+note-requires c κs = search needs
+
+add-r : tie.Need-add-r Inv-loop μ-loop
+add-r c = search needs
+
+loop-less : tie.Need-loop-less Inv-loop μ-loop
+loop-less c = search needs
+
+loop-again : tie.Need-loop-again Inv-loop μ-loop
+loop-again c = search needs
+
+same-length : tie.Need-same-length Inv-loop μ-loop
+same-length c = search needs
+
+returns : tie.Need-returns Inv-loop μ-loop
+returns c = search needs
+
+pub note-rules-spec : {M : Type 1} → statement M
+note-rules-spec =
+    tie.close
+    (tie.spec
+    Inv-loop
+    μ-loop
+    loop-holds
+    mul-word
+    element-copy-out-word
+    word-requires
+    note-requires
+    add-r
+    loop-less
+    loop-again
+    same-length
+    returns)

@@ -1,0 +1,179 @@
+// Chains, followed ahead of the rounds: where a rule lowers a figure, a rule that may lower another by it is tried next. So a chain
+// of rules settles at once, in whatever order its rules stand. Whichever rules are tried, what is known of the figures is kept;
+// the rounds alone say when nothing falls any more, so nothing is promised of which rules are noted.
+ghost use Prim.Native.Nat.{_≤_};
+ghost use lib.ListN.{length};
+ghost use Rattle.grammar.specs.Words.{Grammar};
+ghost use Rattle.tables.specs.Figures.{LeastsSound, ContextsSound};
+ghost use Rattle.tables.specs.View.{View};
+ghost use Rattle.tables.specs.ContextSteps.{Known};
+use crate::contexts::context_of_rule;
+use crate::figures::NONE;
+use crate::figures::figure_at;
+use crate::leasts::lower_least;
+use grammar::rules;
+use grammar::words::word;
+
+// The most symbols of a rule that is taken for a link of a chain.
+const FEW: usize = 4;
+
+fn wide(s: u16) -> usize {
+    s as usize
+}
+
+// Notes a rule for a symbol that there is a place for.
+fn note(notes: &mut [u16], s: usize, rule: usize) {
+    if s < notes.len() {
+        notes[s] = (rule % 65536) as u16;
+    }
+}
+
+// Notes a rule for its symbols, if they are few.
+fn note_symbols(notes: &mut [u16], symbols: &[u16], rule: usize) {
+    if FEW < symbols.len() {
+        return;
+    }
+    let mut i = 0;
+    while i < symbols.len() {
+        note(notes, wide(symbols[i]), rule);
+        i += 1;
+    }
+}
+
+// Notes for each nonterminal a short rule that names it.
+fn note_users(words: &[u16], starts: &[usize; 256], rules: usize, users: &mut [u16])
+    requires { ⌜ rules ≤ 256 ⌝ }
+{
+    let mut r = 0;
+    while r < rules {
+        note_symbols(users, rules::right(words, starts[r]), r);
+        r += 1;
+    }
+}
+
+// Notes for each nonterminal a rule of it.
+fn note_rules(words: &[u16], starts: &[usize; 256], rules: usize, owned: &mut [u16])
+    requires { ⌜ rules ≤ 256 ⌝ }
+{
+    let mut r = 0;
+    while r < rules {
+        note(owned, word(words, starts[r]), r);
+        r += 1;
+    }
+}
+
+fn later(found: usize, s: usize, n: usize) -> usize {
+    if s < n { s } else { found }
+}
+
+// The last nonterminal of few symbols; 65535 where there is none.
+fn link(symbols: &[u16], n: usize) -> usize {
+    let mut found = NONE as usize;
+    if FEW < symbols.len() {
+        return found;
+    }
+    let mut i = 0;
+    while i < symbols.len() {
+        found = later(found, wide(symbols[i]), n);
+        i += 1;
+    }
+    found
+}
+
+// Tries a rule, and where the least of its left side falls, the rule noted for that, and so on.
+fn follow_least(
+    words: &[u16],
+    starts: &[usize; 256],
+    n: usize,
+    rules: usize,
+    users: &[u16],
+    from: usize,
+    leasts: &mut [u16],
+)
+    requires { ⌜ (rules ≤ 256) × (128 ≤ length (now leasts)) ⌝ }
+    ensures { λ _. ⌜ ((g : Grammar) → View (now (words .entry)) (now (starts .entry)) n rules g →
+        LeastsSound g (now (leasts .entry)) → LeastsSound g (now (leasts .exit))) ⌝ }
+{
+    let mut r = from;
+    while r < rules {
+        let at = starts[r];
+        let left = word(words, at);
+        if lower_least(left, rules::right(words, at), n, leasts) == 0 {
+            return;
+        }
+        r = figure_at(users, left);
+    }
+}
+
+// Leasts along chains, from every rule on.
+pub fn follow_leasts(
+    words: &[u16],
+    starts: &[usize; 256],
+    n: usize,
+    rules: usize,
+    leasts: &mut [u16],
+)
+    requires { ⌜ (rules ≤ 256) × (128 ≤ length (now leasts)) ⌝ }
+    ensures { λ _. ⌜ ((g : Grammar) → View (now (words .entry)) (now (starts .entry)) n rules g →
+        LeastsSound g (now (leasts .entry)) → LeastsSound g (now (leasts .exit))) ⌝ }
+{
+    let mut users = [NONE; 128];
+    note_users(words, starts, rules, &mut users);
+    let mut r = 0;
+    while r < rules {
+        follow_least(words, starts, n, rules, &users, r, leasts);
+        r += 1;
+    }
+}
+
+// Tries a rule, and where a context falls, the rule noted for the last of its symbols, and so on.
+fn follow_context(
+    words: &[u16],
+    starts: &[usize; 256],
+    n: usize,
+    rules: usize,
+    sizes: &[u32; 256],
+    owned: &[u16],
+    from: usize,
+    leasts: &[u16],
+    contexts: &mut [u16],
+)
+    requires { ⌜ (rules ≤ 256) × (128 ≤ length (now contexts)) ⌝ }
+    ensures { λ _. ⌜ ((g : Grammar) →
+        Known (now (words .entry)) (now (starts .entry)) n rules (now (sizes .entry)) (now (leasts .entry)) g →
+        ContextsSound g (now (contexts .entry)) → ContextsSound g (now (contexts .exit))) ⌝ }
+{
+    let mut r = from;
+    while r < rules {
+        let at = starts[r];
+        let symbols = rules::right(words, at);
+        if context_of_rule(word(words, at), symbols, n, sizes[r], leasts, contexts) == 0 {
+            return;
+        }
+        r = figure_at(owned, link(symbols, n));
+    }
+}
+
+// Contexts along chains, from every rule on.
+pub fn follow_contexts(
+    words: &[u16],
+    starts: &[usize; 256],
+    n: usize,
+    rules: usize,
+    sizes: &[u32; 256],
+    leasts: &[u16],
+    contexts: &mut [u16],
+)
+    requires { ⌜ (rules ≤ 256) × (128 ≤ length (now contexts)) ⌝ }
+    ensures { λ _. ⌜ ((g : Grammar) →
+        Known (now (words .entry)) (now (starts .entry)) n rules (now (sizes .entry)) (now (leasts .entry)) g →
+        ContextsSound g (now (contexts .entry)) → ContextsSound g (now (contexts .exit))) ⌝ }
+{
+    let mut owned = [NONE; 128];
+    note_rules(words, starts, rules, &mut owned);
+    let mut r = 0;
+    while r < rules {
+        follow_context(words, starts, n, rules, sizes, &owned, r, leasts, contexts);
+        r += 1;
+    }
+}
