@@ -3,8 +3,8 @@
 // grammar shape, and neither has a `requires`: what the input can break is answered by a refusal, which changes no
 // buffer.
 ghost use mathlib.Core.Path.{_≡_};
-ghost use Prim.Native.Nat.{_+_, _*_, _/_, _%_, _≤_};
-ghost use lib.ListN.{length, take};
+ghost use Prim.Native.Nat.{_+_, _*_, _/_, _%_, _≤_, _<_};
+ghost use lib.ListN.{length, take, getD, set};
 ghost use Rattle.packed.specs.File.{wordOf, wordsIn, fileOf};
 ghost use Rattle.answers.specs.Buffers.{over};
 ghost use Rattle.packed.specs.Promise.{Unpacked, Packed};
@@ -51,6 +51,13 @@ fn low(w: u16) -> u8
     (w % 256) as u8
 }
 
+// A word with its two octets exchanged.
+fn exchanged(w: u16) -> u16
+    ensures { λ r. ⌜ (r / 256 ≡ w % 256) × (r % 256 ≡ w / 256) ⌝ }
+{
+    word(low(w), high(w))
+}
+
 fn refuse(number: u16, place: usize) -> FileAnswer
     ensures { λ r. ⌜ r ≡ FileAnswer.Refused number place ⌝ }
 {
@@ -84,6 +91,15 @@ fn judge(file: &[u8]) -> FileAnswer
     FileAnswer::Done(said / 2)
 }
 
+// The two octets at o as a word of the other order, low octet first: the machine's own, in which the compiler reads both at
+// once, and so many words at once in the loop of `read_words`. It does where this is a function of its own.
+fn low_first(file: &[u8], o: usize) -> u16
+    requires { ⌜ o + 1 < length (now file) ⌝ }
+    ensures { λ r. ⌜ (r % 256 ≡ getD (now (file .entry)) o 0) × (r / 256 ≡ getD (now (file .entry)) (o + 1) 0) ⌝ }
+{
+    word(file[o + 1], file[o])
+}
+
 // Writes the words that the octets after the header spell into the front of words.
 fn read_words(file: &[u8], words: &mut [u16], count: usize)
     requires { ⌜ length (now file) ≡ 3 + 2 * count ⌝ }
@@ -93,7 +109,7 @@ fn read_words(file: &[u8], words: &mut [u16], count: usize)
     let mut i: usize = 0;
     let mut o: usize = HEADER;
     while i < count {
-        words[i] = word(file[o], file[o + 1]);
+        words[i] = exchanged(low_first(file, o));
         o += 2;
         i += 1;
     }
@@ -114,6 +130,15 @@ pub fn unpack(file: &[u8], words: &mut [u16]) -> FileAnswer
     judged
 }
 
+// Writes a word's two octets at o in the machine's order, low octet first, as `low_first` reads them and for its reason.
+fn put_low_first(file: &mut [u8], o: usize, w: u16)
+    requires { ⌜ o + 1 < length (now file) ⌝ }
+    ensures { λ _. ⌜ now (file .exit) ≡ set (set (now (file .entry)) o (w % 256)) (o + 1) (w / 256) ⌝ }
+{
+    file[o] = low(w);
+    file[o + 1] = high(w);
+}
+
 // Writes the two octets of each word, from the header on. Up to there file holds the header already.
 fn write_words(words: &[u16], file: &mut [u8])
     requires { ⌜ 3 + 2 * length (now words) ≤ length (now file) ⌝ }
@@ -123,9 +148,7 @@ fn write_words(words: &[u16], file: &mut [u8])
     let mut i: usize = 0;
     let mut o: usize = HEADER;
     while i < words.len() {
-        let w = words[i];
-        file[o] = high(w);
-        file[o + 1] = low(w);
+        put_low_first(file, o, exchanged(words[i]));
         o += 2;
         i += 1;
     }

@@ -2,11 +2,11 @@
 -- the first i words that the file spells and its own from there on. The measure is `count` less i. Assumes nothing.
 use mathlib.Core.Path.{_≡_, sym, _∙_}
 use mathlib.Core.List.{_++_}
-use Prim.Native.Nat.{_+_, _*_, _-_, _≤_, _<_}
+use Prim.Native.Nat.{_+_, _*_, _-_, _/_, _%_, _≤_, _<_}
 use native.Mathlib.Omega.{arith}
 use borrow.Author.Needs.{needs}
 use lib.ListN.{length, take, drop, getD}
-use Rattle.packed.specs.File.{wordsIn}
+use Rattle.packed.specs.File.{wordOf, wordsIn}
 use Rattle.packed.proofs.WordsAndOctets.{length-wordsIn, wordsIn-at}
 use Rattle.answers.proofs.WrittenFromFront.{all-over, store-next}
 use Rattle.packed.proofs.read_words.Statement.{statement}
@@ -22,17 +22,11 @@ abbrev μ-loop : tie.MeasureT-loop
 loop-holds : tie.Need-loop-holds Inv-loop μ-loop
 loop-holds c = search needs
 
-shared-slice-read-word : tie.Need-shared-slice-read-word Inv-loop μ-loop
-shared-slice-read-word c = search needs
+low-first-requires : tie.Need-low-first-requires Inv-loop μ-loop
+low-first-requires c κs = search needs
 
-add-word : tie.Need-add-word Inv-loop μ-loop
-add-word c = search needs
-
-shared-slice-read-word-2 : tie.Need-shared-slice-read-word-2 Inv-loop μ-loop
-shared-slice-read-word-2 c = search needs
-
-word-requires : tie.Need-word-requires Inv-loop μ-loop
-word-requires c κs = search needs
+exchanged-requires : tie.Need-exchanged-requires Inv-loop μ-loop
+exchanged-requires c κs = search needs
 
 mul-words : tie.Need-mul-words Inv-loop μ-loop
 mul-words c = search needs
@@ -51,15 +45,19 @@ loop-less c = search needs
 
 loop-again : tie.Need-loop-again Inv-loop μ-loop
 loop-again c =
-    let at-loop = c .before .before .before .before in
+    let at-loop = c .before .before .before in
     let at-start = at-loop .before .before .before in
     let i = at-loop .loop .i in
+    let o = at-loop .loop .o in
     let file = at-start .args .file .now in
     let words₀ = at-start .args .words .now in
     let count = at-start .args .count in
     let more : i < count = search needs in
-    let v : c .word .result ≡ getD (wordsIn file) i 0 =
-    c .word .ensures ∙ sym (wordsIn-at file count i (at-loop .loop .o) (search needs) more (search needs)) in (
+    let first : c .exchanged .result / 256 ≡ getD file o 0 = c .exchanged .ensures .0 ∙ c .before .low-first .ensures .0 in
+    let second : c .exchanged .result % 256 ≡ getD file (o + 1) 0 = c .exchanged .ensures .1 ∙ c .before .low-first .ensures .1 in
+    let spelled : c .exchanged .result ≡ wordOf (getD file o 0) (getD file (o + 1) 0) = omega arith in
+    let v : c .exchanged .result ≡ getD (wordsIn file) i 0 =
+    spelled ∙ sym (wordsIn-at file count i o (search needs) more (search needs)) in (
       search needs,
       (
         search needs,
@@ -92,10 +90,8 @@ read-words-spec =
     Inv-loop
     μ-loop
     loop-holds
-    shared-slice-read-word
-    add-word
-    shared-slice-read-word-2
-    word-requires
+    low-first-requires
+    exchanged-requires
     mul-words
     slice-write-words
     add-o

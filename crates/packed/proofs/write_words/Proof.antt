@@ -6,8 +6,7 @@ use mathlib.Core.List.{List, _++_}
 use Prim.Native.Nat.{ℕ, _+_, _*_, _-_, _≤_, _<_}
 use native.Mathlib.Omega.{arith}
 use borrow.Author.Needs.{needs}
-use lib.ListN.{length, take, drop, length-set, take-append-drop}
-use lib.Seq.{lt-length-set}
+use lib.ListN.{length, take, drop, take-append-drop}
 use Rattle.packed.specs.File.{fileOf}
 use Rattle.packed.proofs.WordsAndOctets.{length-fileOf, fileOf-high, fileOf-low}
 use Rattle.answers.proofs.WrittenFromFront.{all-over}
@@ -29,28 +28,17 @@ loop-holds c =
     let whole = sym (take-append-drop 3 file₀) ∙ ap (λ (l : List ℕ). l ++ drop 3 file₀) (at-start .pre .1) in
     (search needs, (search needs, (search needs, whole)))
 
-mul-w : tie.Need-mul-w Inv-loop μ-loop
-mul-w c = search needs
+mul-exchanged : tie.Need-mul-exchanged Inv-loop μ-loop
+mul-exchanged c = search needs
 
-shared-slice-read-w : tie.Need-shared-slice-read-w Inv-loop μ-loop
-shared-slice-read-w c = search needs
+shared-slice-read-exchanged : tie.Need-shared-slice-read-exchanged Inv-loop μ-loop
+shared-slice-read-exchanged c = search needs
 
-high-requires : tie.Need-high-requires Inv-loop μ-loop
-high-requires c κs = search needs
+exchanged-requires : tie.Need-exchanged-requires Inv-loop μ-loop
+exchanged-requires c κs = search needs
 
-slice-write-file : tie.Need-slice-write-file Inv-loop μ-loop
-slice-write-file c = search needs
-
-low-requires : tie.Need-low-requires Inv-loop μ-loop
-low-requires c κs = search needs
-
-add-file : tie.Need-add-file Inv-loop μ-loop
-add-file c = search needs
-
-slice-write-file-2 : tie.Need-slice-write-file-2 Inv-loop μ-loop
-slice-write-file-2 c =
-    let at-loop = c .before .before .before .before in
-    lt-length-set (at-loop .loop .file) (at-loop .loop .o) _ (omega arith)
+put-low-first-requires : tie.Need-put-low-first-requires Inv-loop μ-loop
+put-low-first-requires c κs = search needs
 
 add-o : tie.Need-add-o Inv-loop μ-loop
 add-o c = search needs
@@ -63,7 +51,9 @@ loop-less c = search needs
 
 loop-again : tie.Need-loop-again Inv-loop μ-loop
 loop-again c =
-    let at-loop = c .before .before .before .before in
+    let at-put = c .before .before in
+    let at-exchanged = at-put .before in
+    let at-loop = at-exchanged .before .before .before .before in
     let at-start = at-loop .before .before .before in
     let i = at-loop .loop .i in
     let o = at-loop .loop .o in
@@ -76,13 +66,13 @@ loop-again c =
       (
         search needs,
         (
-          simp length-set (search needs),
-          rw (at-loop .loop .inv .1 .1 .1)
+          search needs,
+          rw (at-put .put-low-first .ensures, at-loop .loop .inv .1 .1 .1)
               (store-two (fileOf words) file₀ o _ _
               (omega arith)
               (omega arith)
-              (c .before .high .ensures ∙ sym (fileOf-high words i o more eo))
-              (c .low .ensures ∙ sym (fileOf-low words i o more eo))),
+              (at-exchanged .exchanged .ensures .1 ∙ sym (fileOf-high words i o more eo))
+              (at-exchanged .exchanged .ensures .0 ∙ sym (fileOf-low words i o more eo))),
         ),
       ),
     )
@@ -106,13 +96,10 @@ write-words-spec =
     Inv-loop
     μ-loop
     loop-holds
-    mul-w
-    shared-slice-read-w
-    high-requires
-    slice-write-file
-    low-requires
-    add-file
-    slice-write-file-2
+    mul-exchanged
+    shared-slice-read-exchanged
+    exchanged-requires
+    put-low-first-requires
     add-o
     add-i
     loop-less
