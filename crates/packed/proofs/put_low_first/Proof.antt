@@ -1,5 +1,7 @@
 -- `packed::put_low_first` meets its contract. Assumes nothing.
+use native.Mathlib.Omega.{arith}
 use borrow.Author.Needs.{needs}
+use lib.ListN.{length-set}
 use Rattle.packed.proofs.put_low_first.Statement.{statement}
 use Rattle.packed.proofs.put_low_first.Tie as tie
 
@@ -16,7 +18,7 @@ add-file : tie.Need-add-file
 add-file c = search needs
 
 slice-write-file-2 : tie.Need-slice-write-file-2
-slice-write-file-2 c = search needs
+slice-write-file-2 c = simp length-set (omega arith)
 
 same-length : tie.Need-same-length
 same-length c = search needs
