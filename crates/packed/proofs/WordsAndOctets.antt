@@ -3,7 +3,7 @@
 use mathlib.Core.Path.{_≡_, refl, ap, _∙_}
 use mathlib.Core.List.{List, [], _∷_}
 use Prim.Native.Nat.{ℕ, zero, suc, _+_, _*_, _/_, _%_, _<_}
-use native.Mathlib.Nat.{le-of-suc-le-suc, not-suc-le-zero, div-add-mod'}
+use native.Mathlib.Nat.{le-of-suc-le-suc, not-suc-le-zero, add-assoc, div-add-mod'}
 use native.Mathlib.Numerals.{add-one}
 use native.Mathlib.Omega.{arith}
 use lib.Arith.{digits-div, digits-mod}
@@ -64,22 +64,19 @@ fileOf-at : (ws : List ℕ) (k : ℕ) → getD (fileOf ws) (3 + k) 0 ≡ getD (o
 unfolding fileOf octetsOf
 fileOf-at ws k = getD-append-add (1 ∷ length (octetsOf ws) / 256 ∷ length (octetsOf ws) % 256 ∷ []) (octetsOf ws) k 0
 
--- word i of a file of n words, whose octets stand at o and after it
-pub wordsIn-at : (file : List ℕ) (n i o : ℕ) → length file ≡ 3 + 2 * n → i < n → o ≡ 3 + 2 * i →
-    getD (wordsIn file) i 0 ≡ wordOf (getD file o 0) (getD file (o + 1) 0)
-wordsIn-at file n i o e h eo =
-    let e₁ : 3 + (2 * i + 1) ≡ o + 1 = omega arith in
+-- word i of a file of n words
+pub wordsIn-at : (file : List ℕ) (n i : ℕ) → length file ≡ 3 + 2 * n → i < n →
+    getD (wordsIn file) i 0 ≡ wordOf (getD file (3 + 2 * i) 0) (getD file (3 + 2 * i + 1) 0)
+wordsIn-at file n i e h =
     wordsOf-at (following file) i (omega (arith, length-drop 3 file))
-    ∙ rw (getD-drop 3 file (2 * i) 0, getD-drop 3 file (2 * i + 1) 0, e₁, ← eo)
+    ∙ rw (getD-drop 3 file (2 * i) 0, getD-drop 3 file (2 * i + 1) 0, ← add-assoc 3 (2 * i) 1)
 
 -- and its two octets in the file of some words
-pub fileOf-high : (ws : List ℕ) (i o : ℕ) → i < length ws → o ≡ 3 + 2 * i → getD (fileOf ws) o 0 ≡ getD ws i 0 / 256
-fileOf-high ws i o h eo = rw eo (fileOf-at ws (2 * i) ∙ octetsOf-high ws i h)
+pub fileOf-high : (ws : List ℕ) (i : ℕ) → i < length ws → getD (fileOf ws) (3 + 2 * i) 0 ≡ getD ws i 0 / 256
+fileOf-high ws i h = fileOf-at ws (2 * i) ∙ octetsOf-high ws i h
 
-pub fileOf-low : (ws : List ℕ) (i o : ℕ) → i < length ws → o ≡ 3 + 2 * i → getD (fileOf ws) (o + 1) 0 ≡ getD ws i 0 % 256
-fileOf-low ws i o h eo =
-    let e₁ : o + 1 ≡ 3 + (2 * i + 1) = omega arith in
-    rw e₁ (fileOf-at ws (2 * i + 1) ∙ octetsOf-low ws i h)
+pub fileOf-low : (ws : List ℕ) (i : ℕ) → i < length ws → getD (fileOf ws) (3 + 2 * i + 1) 0 ≡ getD ws i 0 % 256
+fileOf-low ws i h = rw (add-assoc 3 (2 * i) 1) (fileOf-at ws (2 * i + 1) ∙ octetsOf-low ws i h)
 
 -- THERE AND BACK
 words-back : (ws : List ℕ) → wordsOf (octetsOf ws) ≡ ws

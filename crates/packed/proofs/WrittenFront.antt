@@ -12,11 +12,11 @@ use Rattle.answers.proofs.WrittenFromFront.{store-next}
 use Rattle.packed.proofs.WordsAndOctets.{length-octetsOf}
 
 -- two stores at the next places
-pub store-two : (out buf : List ℕ) (o a b : ℕ) → o + 1 < length out → o + 1 < length buf →
+pub store-two : (out buf : List ℕ) (o next a b : ℕ) → next ≡ o + 2 → o + 1 < length out → o + 1 < length buf →
     a ≡ getD out o 0 → b ≡ getD out (o + 1) 0 →
-    set (set (take o out ++ drop o buf) o a) (o + 1) b ≡ take (o + 2) out ++ drop (o + 2) buf
-store-two out buf o a b h k ea eb =
-    let e₂ : o + 1 + 1 ≡ o + 2 = omega arith in
+    set (set (take o out ++ drop o buf) o a) (o + 1) b ≡ take next out ++ drop next buf
+store-two out buf o next a b n h k ea eb =
+    let e₂ : o + 1 + 1 ≡ next = omega arith in
     rw (ea, eb, store-next out buf o (omega arith) (omega arith), store-next out buf (o + 1) h k, e₂)
 
 -- the three stores of the header

@@ -107,10 +107,8 @@ fn read_words(file: &[u8], words: &mut [u16], count: usize)
     ensures { λ _. ⌜ now (words .exit) ≡ over (wordsIn (now (file .entry))) (now (words .entry)) ⌝ }
 {
     let mut i: usize = 0;
-    let mut o: usize = HEADER;
     while i < count {
-        words[i] = exchanged(low_first(file, o));
-        o += 2;
+        words[i] = exchanged(low_first(file, HEADER + 2 * i));
         i += 1;
     }
 }
@@ -146,10 +144,8 @@ fn write_words(words: &[u16], file: &mut [u8])
     ensures { λ _. ⌜ now (file .exit) ≡ over (fileOf (now (words .entry))) (now (file .entry)) ⌝ }
 {
     let mut i: usize = 0;
-    let mut o: usize = HEADER;
     while i < words.len() {
-        put_low_first(file, o, exchanged(words[i]));
-        o += 2;
+        put_low_first(file, HEADER + 2 * i, exchanged(words[i]));
         i += 1;
     }
 }

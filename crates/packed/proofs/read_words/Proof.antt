@@ -1,5 +1,5 @@
--- `packed::read_words` meets its contract. The invariant of its loop: `o` is `3 + 2 i`, i is at most `count`, and `words` holds
--- the first i words that the file spells and its own from there on. The measure is `count` less i. Assumes nothing.
+-- `packed::read_words` meets its contract. The invariant of its loop: i is at most `count`, and `words` holds the first i words
+-- that the file spells and its own from there on. The measure is `count` less i. Assumes nothing.
 use mathlib.Core.Path.{_≡_, sym, _∙_}
 use mathlib.Core.List.{_++_}
 use Prim.Native.Nat.{_+_, _*_, _-_, _/_, _%_, _≤_, _<_}
@@ -13,14 +13,20 @@ use Rattle.packed.proofs.read_words.Statement.{statement}
 use Rattle.packed.proofs.read_words.Tie as tie
 
 abbrev Inv-loop : tie.InvT-loop
-Inv-loop file words₀ count i₀ o₀ words i o =
-    (o ≡ 3 + 2 * i) × ((i ≤ count) × ((length words ≡ length words₀) × (words ≡ take i (wordsIn file) ++ drop i words₀)))
+Inv-loop file words₀ count i₀ words i =
+    (i ≤ count) × ((length words ≡ length words₀) × (words ≡ take i (wordsIn file) ++ drop i words₀))
 
 abbrev μ-loop : tie.MeasureT-loop
-μ-loop file words₀ count i₀ o₀ words i o = count - i
+μ-loop file words₀ count i₀ words i = count - i
 
 loop-holds : tie.Need-loop-holds Inv-loop μ-loop
 loop-holds c = search needs
+
+mul-low-first : tie.Need-mul-low-first Inv-loop μ-loop
+mul-low-first c = search needs
+
+add-low-first : tie.Need-add-low-first Inv-loop μ-loop
+add-low-first c = search needs
 
 low-first-requires : tie.Need-low-first-requires Inv-loop μ-loop
 low-first-requires c κs = search needs
@@ -34,9 +40,6 @@ mul-words c = search needs
 slice-write-words : tie.Need-slice-write-words Inv-loop μ-loop
 slice-write-words c = search needs
 
-add-o : tie.Need-add-o Inv-loop μ-loop
-add-o c = search needs
-
 add-i : tie.Need-add-i Inv-loop μ-loop
 add-i c = search needs
 
@@ -48,7 +51,7 @@ loop-again c =
     let at-loop = c .before .before .before in
     let at-start = at-loop .before .before .before in
     let i = at-loop .loop .i in
-    let o = at-loop .loop .o in
+    let o = 3 + 2 * i in
     let file = at-start .args .file .now in
     let words₀ = at-start .args .words .now in
     let count = at-start .args .count in
@@ -57,15 +60,12 @@ loop-again c =
     let second : c .exchanged .result % 256 ≡ getD file (o + 1) 0 = c .exchanged .ensures .1 ∙ c .before .low-first .ensures .1 in
     let spelled : c .exchanged .result ≡ wordOf (getD file o 0) (getD file (o + 1) 0) = omega arith in
     let v : c .exchanged .result ≡ getD (wordsIn file) i 0 =
-    spelled ∙ sym (wordsIn-at file count i o (search needs) more (search needs)) in (
+    spelled ∙ sym (wordsIn-at file count i (search needs) more) in (
       search needs,
       (
         search needs,
-        (
-          search needs,
-          rw (at-loop .loop .inv .1 .1 .1, v)
-              (store-next (wordsIn file) words₀ i (omega (arith, length-wordsIn file count (search needs))) (search needs)),
-        ),
+        rw (at-loop .loop .inv .1 .1, v)
+            (store-next (wordsIn file) words₀ i (omega (arith, length-wordsIn file count (search needs))) (search needs)),
       ),
     )
 
@@ -80,7 +80,7 @@ returns c =
     let words₀ = at-start .args .words .now in
     let count = at-start .args .count in
     let past : at-loop .loop .i ≡ count = omega arith in
-    at-loop .loop .inv .1 .1 .1
+    at-loop .loop .inv .1 .1
     ∙ all-over (wordsIn file) words₀ (at-loop .loop .i) (length-wordsIn file count (search needs) ∙ sym past)
 
 pub read-words-spec : {M : Type 1} → statement M
@@ -90,11 +90,12 @@ read-words-spec =
     Inv-loop
     μ-loop
     loop-holds
+    mul-low-first
+    add-low-first
     low-first-requires
     exchanged-requires
     mul-words
     slice-write-words
-    add-o
     add-i
     loop-less
     loop-again

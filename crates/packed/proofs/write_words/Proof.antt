@@ -1,5 +1,5 @@
--- `packed::write_words` meets its contract. The invariant of its loop: `o` is `3 + 2 i`, i is at most the number of words, and
--- `file` holds the first o octets of the words' file and its own from there on. The measure is the number of words less i.
+-- `packed::write_words` meets its contract. The invariant of its loop: i is at most the number of words, and `file` holds the
+-- first `3 + 2 i` octets of the words' file and its own from there on. The measure is the number of words less i.
 -- Assumes nothing.
 use mathlib.Core.Path.{_≡_, sym, ap, _∙_}
 use mathlib.Core.List.{List, _++_}
@@ -15,18 +15,25 @@ use Rattle.packed.proofs.write_words.Statement.{statement}
 use Rattle.packed.proofs.write_words.Tie as tie
 
 abbrev Inv-loop : tie.InvT-loop
-Inv-loop words file₀ i₀ o₀ file i o =
-    (o ≡ 3 + 2 * i) × ((i ≤ length words) × ((length file ≡ length file₀) × (file ≡ take o (fileOf words) ++ drop o file₀)))
+Inv-loop words file₀ i₀ file i =
+    (i ≤ length words)
+    × ((length file ≡ length file₀) × (file ≡ take (3 + 2 * i) (fileOf words) ++ drop (3 + 2 * i) file₀))
 
 abbrev μ-loop : tie.MeasureT-loop
-μ-loop words file₀ i₀ o₀ file i o = length words - i
+μ-loop words file₀ i₀ file i = length words - i
 
 loop-holds : tie.Need-loop-holds Inv-loop μ-loop
 loop-holds c =
     let at-start = c .before .before in
     let file₀ = at-start .args .file .now in
     let whole = sym (take-append-drop 3 file₀) ∙ ap (λ (l : List ℕ). l ++ drop 3 file₀) (at-start .pre .1) in
-    (search needs, (search needs, (search needs, whole)))
+    (search needs, (search needs, whole))
+
+mul-put-low-first : tie.Need-mul-put-low-first Inv-loop μ-loop
+mul-put-low-first c = search needs
+
+add-put-low-first : tie.Need-add-put-low-first Inv-loop μ-loop
+add-put-low-first c = search needs
 
 mul-exchanged : tie.Need-mul-exchanged Inv-loop μ-loop
 mul-exchanged c = search needs
@@ -39,9 +46,6 @@ exchanged-requires c κs = search needs
 
 put-low-first-requires : tie.Need-put-low-first-requires Inv-loop μ-loop
 put-low-first-requires c κs = search needs
-
-add-o : tie.Need-add-o Inv-loop μ-loop
-add-o c = search needs
 
 add-i : tie.Need-add-i Inv-loop μ-loop
 add-i c = search needs
@@ -56,24 +60,21 @@ loop-again c =
     let at-loop = at-exchanged .before .before .before .before in
     let at-start = at-loop .before .before .before in
     let i = at-loop .loop .i in
-    let o = at-loop .loop .o in
+    let o = 3 + 2 * i in
     let words = at-start .args .words .now in
     let file₀ = at-start .args .file .now in
     let more : i < length words = search needs in
-    let eo : o ≡ 3 + 2 * i = search needs in
     let all = length-fileOf words in (
       search needs,
       (
         search needs,
-        (
-          search needs,
-          rw (at-put .put-low-first .ensures, at-loop .loop .inv .1 .1 .1)
-              (store-two (fileOf words) file₀ o _ _
-              (omega arith)
-              (omega arith)
-              (at-exchanged .exchanged .ensures .1 ∙ sym (fileOf-high words i o more eo))
-              (at-exchanged .exchanged .ensures .0 ∙ sym (fileOf-low words i o more eo))),
-        ),
+        rw (at-put .put-low-first .ensures, at-loop .loop .inv .1 .1)
+            (store-two (fileOf words) file₀ o (3 + 2 * (i + 1)) _ _
+            (omega arith)
+            (omega arith)
+            (omega arith)
+            (at-exchanged .exchanged .ensures .1 ∙ sym (fileOf-high words i more))
+            (at-exchanged .exchanged .ensures .0 ∙ sym (fileOf-low words i more))),
       ),
     )
 
@@ -86,8 +87,8 @@ returns c =
     let at-start = at-loop .before .before .before in
     let words = at-start .args .words .now in
     let past : at-loop .loop .i ≡ length words = omega arith in
-    at-loop .loop .inv .1 .1 .1
-    ∙ all-over (fileOf words) (at-start .args .file .now) (at-loop .loop .o) (omega (arith, length-fileOf words))
+    at-loop .loop .inv .1 .1
+    ∙ all-over (fileOf words) (at-start .args .file .now) (3 + 2 * at-loop .loop .i) (omega (arith, length-fileOf words))
 
 pub write-words-spec : {M : Type 1} → statement M
 write-words-spec =
@@ -96,11 +97,12 @@ write-words-spec =
     Inv-loop
     μ-loop
     loop-holds
+    mul-put-low-first
+    add-put-low-first
     mul-exchanged
     shared-slice-read-exchanged
     exchanged-requires
     put-low-first-requires
-    add-o
     add-i
     loop-less
     loop-again
