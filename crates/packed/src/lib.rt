@@ -91,8 +91,8 @@ fn judge(file: &[u8]) -> FileAnswer
     FileAnswer::Done(said / 2)
 }
 
-// The two octets at o as a word of the other order, low octet first: the machine's own, in which the compiler reads both at
-// once, and so many words at once in the loop of `read_words`. It does where this is a function of its own.
+// The two octets at o as a word in the machine's order, low octet first: only in this order does the compiler make the two reads
+// one, and then take many words at a time in the loop of `read_words`.
 fn low_first(file: &[u8], o: usize) -> u16
     requires { ⌜ o + 1 < length (now file) ⌝ }
     ensures { λ r. ⌜ (r % 256 ≡ getD (now (file .entry)) o 0) × (r / 256 ≡ getD (now (file .entry)) (o + 1) 0) ⌝ }
@@ -128,7 +128,7 @@ pub fn unpack(file: &[u8], words: &mut [u16]) -> FileAnswer
     judged
 }
 
-// Writes a word's two octets at o in the machine's order, low octet first, as `low_first` reads them and for its reason.
+// Writes a word's two octets at o in the machine's order, low octet first: `low_first` the other way, and for its reason.
 fn put_low_first(file: &mut [u8], o: usize, w: u16)
     requires { ⌜ o + 1 < length (now file) ⌝ }
     ensures { λ _. ⌜ now (file .exit) ≡ set (set (now (file .entry)) o (w % 256)) (o + 1) (w / 256) ⌝ }
