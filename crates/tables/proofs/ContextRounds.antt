@@ -18,7 +18,7 @@ use Rattle.grammar.proofs.Certificate.{wordSize}
 use Rattle.grammar.proofs.ContextCertificate.{Holds, othersSize}
 use Rattle.grammar.proofs.CappedContexts.{OfOpen}
 use Rattle.grammar.proofs.AtRest.{place-figure}
-use Rattle.tables.specs.Figures.{figure, Has, capped, Lowered, fell, stayed, turn, LeastsDone}
+use Rattle.tables.specs.Figures.{Turn, figure, Has, capped, Lowered, fell, stayed, turn, LeastsDone}
 use Rattle.tables.specs.View.{View}
 use Rattle.tables.specs.Figures.{ContextsSound, ContextQuiet}
 use Rattle.tables.specs.ContextSteps.{PlaceStep, skipped, tried, PlacesStep, no-symbol, symbol, ContextStep, without, with}
@@ -27,8 +27,7 @@ use Rattle.tables.proofs.SizeApart.{size-apart}
 use Rattle.tables.proofs.DoneLeasts.{done-certificate}
 use Rattle.tables.proofs.ContextsFall.{context-few, context-fallen, context-length}
 use Rattle.tables.proofs.FiguresKept.{lowered-no-higher, lowered-known}
-use Rattle.tables.proofs.RoundsCompose.{Turn}
-use Rattle.tables.proofs.RoundSoFar.{SoFar, one-more}
+use Rattle.tables.proofs.RoundSoFar.{SoFar}
 use Rattle.tables.proofs.RulesInView.{viewed-rule, viewed-left, viewed-right, viewed-room}
 
 abbrev OpenCut : Grammar → ℕ → ℕ → Type 0
@@ -145,17 +144,20 @@ module _ {ws starts sizes vs : List ℕ} {n rules : ℕ} {g : Grammar} (known : 
       ContextsSound g us → ContextsSound g us′
   context-kept h long e e′ e″ step = context-turn h long (rw (e, e′, e″) at step) .keeps
 
--- A ROUND, after its first i turns: from the figures us to us′
-module _ (ws starts : List ℕ) (n rules : ℕ) (sizes vs : List ℕ) where
-  abbrev pub ContextsSoFar : Bool → ℕ → List ℕ → List ℕ → ℕ → Type 0
-  ContextsSoFar up i us us′ f =
-      SoFar (Known ws starts n rules sizes vs) ContextsSound (λ g. ContextQuiet g vs) up rules i us us′ f
+  -- a turn that lowers nothing, and one that others follow
+  module _ {B k f size : ℕ} {w us us′ : List ℕ} (h : k < rules) (long : 128 ≤ length us) (e : B ≡ getD ws (getD starts k 0) 0)
+      (e′ : w ≡ rightAt ws (getD starts k 0)) (e″ : size ≡ getD sizes k 0) (step : ContextStep n size vs B w us us′ f) where
+    turn-of : Turn (ContextsSound g) (ContextQuiet g vs) k us us′ f
+    turn-of = context-turn h long (rw (e, e′, e″) at step)
 
-  pub contexts-more : {up : Bool} {i m f B k size : ℕ} {w us us′ us″ : List ℕ} → 128 ≤ length us → i < rules →
-      ContextsSoFar up i us us′ m → (k ≡ turn up rules i) × (k < rules) → B ≡ getD ws (getD starts k 0) 0 →
-      (w ≡ rightAt ws (getD starts k 0)) × (length w ≤ 65535) → size ≡ getD sizes k 0 → ContextStep n size vs B w us′ us″ f →
-      ContextsSoFar up (i + 1) us us″ (m + f)
-  contexts-more long h so-far (in-turn, below) e (e′, few) e″ step =
-      one-more (Known ws starts n rules sizes vs) ContextsSound (λ g. ContextQuiet g vs) h so-far in-turn (context-length step)
-      (omega (arith, context-few step)) (context-fallen step)
-      (λ g known. context-turn known below (omega (arith, so-far .same-length)) (rw (e, e′, e″) at step))
+    pub context-alone : f ≡ 0 → Turn (ContextsSound g) (ContextQuiet g vs) k us us′ 0
+    context-alone none = record { keeps = turn-of .keeps; still = λ z. turn-of .still none }
+
+    pub context-followed : {xs : List ℕ} → (ContextsSound g us′ → ContextsSound g xs) →
+        Turn (ContextsSound g) (ContextQuiet g vs) k us xs 1
+    context-followed follows = record { keeps = λ s. follows (turn-of .keeps s); still = λ z. absurd (omega arith) }
+
+-- A ROUND, after its first i turns: from the figures us to us′
+abbrev pub ContextsSoFar : (ws starts : List ℕ) (n rules : ℕ) (sizes vs : List ℕ) → Bool → ℕ → List ℕ → List ℕ → ℕ → Type 0
+ContextsSoFar ws starts n rules sizes vs up i us us′ f =
+    SoFar (Known ws starts n rules sizes vs) ContextsSound (λ g. ContextQuiet g vs) up rules i us us′ f

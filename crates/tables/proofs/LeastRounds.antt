@@ -14,13 +14,12 @@ use Rattle.grammar.proofs.Cap.{plainCap}
 use Rattle.grammar.proofs.CappedLeasts.{OfTree}
 use Rattle.grammar.proofs.Certificate.{wordSize}
 use Rattle.grammar.proofs.AtRest.{rule-figure}
-use Rattle.tables.specs.Figures.{figure, capped, Lowered, fell, stayed, Fallen, HaveIn, turn, LeastsSound, LeastQuiet}
+use Rattle.tables.specs.Figures.{Turn, figure, capped, Lowered, fell, stayed, Fallen, HaveIn, turn, LeastsSound, LeastQuiet}
 use Rattle.tables.specs.View.{View}
 use Rattle.tables.specs.LeastSteps.{SizeOf, LeastStep, not-yet, tried}
 use Rattle.tables.proofs.FiguresFall.{lowered-fallen}
 use Rattle.tables.proofs.FiguresKept.{lowered-once, lowered-length, lowered-known}
-use Rattle.tables.proofs.RoundsCompose.{Turn}
-use Rattle.tables.proofs.RoundSoFar.{SoFar, one-more}
+use Rattle.tables.proofs.RoundSoFar.{SoFar}
 use Rattle.tables.proofs.RulesInView.{viewed-rule, viewed-left, viewed-right, viewed-room}
 
 pub step-fallen : {A n k : ℕ} {w vs us : List ℕ} → LeastStep A w n vs us k → Fallen vs us k
@@ -82,14 +81,18 @@ module _ {ws starts : List ℕ} {n rules : ℕ} {g : Grammar} (view : View ws st
       w ≡ rightAt ws (getD starts k 0) → LeastStep A w n vs us m → LeastsSound g vs → LeastsSound g us
   least-kept h long e e′ step = least-turn h long (rw (e, e′) at step) .keeps
 
--- A ROUND, after its first i turns: from the figures vs to us
-module _ (ws starts : List ℕ) (n rules : ℕ) where
-  abbrev pub LeastsSoFar : Bool → ℕ → List ℕ → List ℕ → ℕ → Type 0
-  LeastsSoFar up i vs us m = SoFar (View ws starts n rules) LeastsSound LeastQuiet up rules i vs us m
+  -- a turn that lowers nothing, and one that others follow
+  module _ {A k m : ℕ} {w vs us : List ℕ} (h : k < rules) (long : 128 ≤ length vs) (e : A ≡ getD ws (getD starts k 0) 0)
+      (e′ : w ≡ rightAt ws (getD starts k 0)) (step : LeastStep A w n vs us m) where
+    turn-of : Turn (LeastsSound g) (LeastQuiet g) k vs us m
+    turn-of = least-turn h long (rw (e, e′) at step)
 
-  pub least-more : {up : Bool} {i m l A k : ℕ} {w vs us xs : List ℕ} → 128 ≤ length vs → i < rules →
-      LeastsSoFar up i vs us m → (k ≡ turn up rules i) × (k < rules) → A ≡ getD ws (getD starts k 0) 0 →
-      w ≡ rightAt ws (getD starts k 0) → LeastStep A w n us xs l → LeastsSoFar up (i + 1) vs xs (m + l)
-  least-more long h so-far (in-turn, below) e e′ step =
-      one-more (View ws starts n rules) LeastsSound LeastQuiet h so-far in-turn (step-length step) (omega (arith, step-one step))
-      (step-fallen step) (λ g view. least-turn view below (omega (arith, so-far .same-length)) (rw (e, e′) at step))
+    pub least-alone : m ≡ 0 → Turn (LeastsSound g) (LeastQuiet g) k vs us 0
+    least-alone none = record { keeps = turn-of .keeps; still = λ z. turn-of .still none }
+
+    pub least-followed : {xs : List ℕ} → (LeastsSound g us → LeastsSound g xs) → Turn (LeastsSound g) (LeastQuiet g) k vs xs 1
+    least-followed follows = record { keeps = λ s. follows (turn-of .keeps s); still = λ z. absurd (omega arith) }
+
+-- A ROUND, after its first i turns: from the figures vs to us
+abbrev pub LeastsSoFar : (ws starts : List ℕ) (n rules : ℕ) → Bool → ℕ → List ℕ → List ℕ → ℕ → Type 0
+LeastsSoFar ws starts n rules up i vs us m = SoFar (View ws starts n rules) LeastsSound LeastQuiet up rules i vs us m

@@ -7,8 +7,8 @@ use Prim.Native.Nat.{ℕ, _+_, _*_, _≤_, _<_}
 use native.Mathlib.Omega.{arith}
 use lib.ListN.{length}
 use Rattle.grammar.specs.Words.{Grammar}
-use Rattle.tables.specs.Figures.{Fallen, Round, turn}
-use Rattle.tables.proofs.RoundsCompose.{Turn, Turns, turns-none, turns-more, turns-all}
+use Rattle.tables.specs.Figures.{Turn, Fallen, Round, turn}
+use Rattle.tables.proofs.RoundsCompose.{Turns, turns-none, turns-more, turns-all}
 
 module _ (Given : Grammar → Type 0) (Sound : Grammar → List ℕ → Type 0) (Quiet : Grammar → List ℕ → ℕ → Type 0) where
   pub record SoFar (up : Bool) (rules i : ℕ) (before after : List ℕ) (n : ℕ) : Type 0 where

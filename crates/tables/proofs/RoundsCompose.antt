@@ -8,14 +8,9 @@ use mathlib.Core.List.{List}
 use Prim.Native.Nat.{ℕ, _+_, _-_, _<_}
 use native.Mathlib.Omega.{arith}
 use borrow.Author.Count.{below-more}
-use Rattle.tables.specs.Figures.{Round, turn}
+use Rattle.tables.specs.Figures.{Turn, Round, turn}
 
 module _ (Sound : List ℕ → Type 0) (Quiet : List ℕ → ℕ → Type 0) where
-  -- one turn, of rule k
-  pub record Turn (k : ℕ) (before after : List ℕ) (n : ℕ) : Type 0 where
-    pub keeps : Sound before → Sound after
-    pub still : n ≡ 0 → (after ≡ before) × Quiet before k
-
   -- the first i turns of a round
   pub record Turns (up : Bool) (rules i : ℕ) (before after : List ℕ) (n : ℕ) : Type 0 where
     pub keeps : Sound before → Sound after
@@ -25,7 +20,7 @@ module _ (Sound : List ℕ → Type 0) (Quiet : List ℕ → ℕ → Type 0) whe
   turns-none xs = record { keeps = λ s. s; still = λ e. (refl, λ j h. absurd (omega arith)) }
 
   pub turns-more : {up : Bool} {rules i m n : ℕ} {xs ys zs : List ℕ} →
-      Turns up rules i xs ys m → Turn (turn up rules i) ys zs n → Turns up rules (i + 1) xs zs (m + n)
+      Turns up rules i xs ys m → Turn Sound Quiet (turn up rules i) ys zs n → Turns up rules (i + 1) xs zs (m + n)
   turns-more {up} {rules} {i} {m} {n} {xs} {ys} {zs} t u = record { keeps = λ s. u .keeps (t .keeps s); still = still }
     where
       still : m + n ≡ 0 → (zs ≡ xs) × ((j : ℕ) → j < i + 1 → Quiet xs (turn up rules j))

@@ -47,6 +47,11 @@ pub data FirstAbove (xs : List ℕ) (n most : ℕ) : Found → Type 0 where
   found-at : {a : ℕ} → a < n → most < figure xs a → ((b : ℕ) → b < a → figure xs b ≤ most) → FirstAbove xs n most (At a)
   found-none : ((b : ℕ) → b < n → figure xs b ≤ most) → FirstAbove xs n most Nothing
 
+-- The turn of rule k: it keeps what is known of the figures, and where nothing fell nothing changed, and the rule is quiet.
+pub record Turn (Sound : List ℕ → Type 0) (Quiet : List ℕ → ℕ → Type 0) (k : ℕ) (before after : List ℕ) (n : ℕ) : Type 0 where
+  pub keeps : Sound before → Sound after
+  pub still : n ≡ 0 → (after ≡ before) × Quiet before k
+
 -- A round over the rules: it keeps what is known of the figures, and where nothing fell nothing changed, and every rule is quiet.
 pub record Round (Sound : List ℕ → Type 0) (Quiet : List ℕ → ℕ → Type 0) (rules : ℕ) (before after : List ℕ) (n : ℕ) :
     Type 0 where

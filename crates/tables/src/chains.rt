@@ -1,10 +1,10 @@
-// Chains, followed ahead of the rounds: where a rule lowers a figure, a rule that may lower another by it is tried next. So a chain
-// of rules settles at once, in whatever order its rules stand. Whichever rules are tried, what is known of the figures is kept;
-// the rounds alone say when nothing falls any more, so nothing is promised of which rules are noted.
-ghost use Prim.Native.Nat.{_≤_};
+// Chains, followed within a round: where a rule lowers a figure in its turn, a rule that may lower another by it is tried next. So a
+// chain of rules settles at once, in whatever order its rules stand. Whichever rules are tried, what is known of the figures is
+// kept, and the round counts the turn alone; so nothing is promised of which rules are noted.
+ghost use Prim.Native.Nat.{_≤_, _<_};
 ghost use lib.ListN.{length};
 ghost use Rattle.grammar.specs.Words.{Grammar};
-ghost use Rattle.tables.specs.Figures.{LeastsSound, ContextsSound};
+ghost use Rattle.tables.specs.Figures.{Fallen, Turn, LeastsSound, LeastQuiet, ContextsSound, ContextQuiet};
 ghost use Rattle.tables.specs.View.{View};
 ghost use Rattle.tables.specs.ContextSteps.{Known};
 use crate::contexts::context_of_rule;
@@ -41,7 +41,7 @@ fn note_symbols(notes: &mut [u16], symbols: &[u16], rule: usize) {
 }
 
 // Notes for each nonterminal a short rule that names it.
-fn note_users(words: &[u16], starts: &[usize; 256], rules: usize, users: &mut [u16])
+pub fn note_users(words: &[u16], starts: &[usize; 256], rules: usize, users: &mut [u16])
     requires { ⌜ rules ≤ 256 ⌝ }
 {
     let mut r = 0;
@@ -52,7 +52,7 @@ fn note_users(words: &[u16], starts: &[usize; 256], rules: usize, users: &mut [u
 }
 
 // Notes for each nonterminal a rule of it.
-fn note_rules(words: &[u16], starts: &[usize; 256], rules: usize, owned: &mut [u16])
+pub fn note_rules(words: &[u16], starts: &[usize; 256], rules: usize, owned: &mut [u16])
     requires { ⌜ rules ≤ 256 ⌝ }
 {
     let mut r = 0;
@@ -91,6 +91,7 @@ fn follow_least(
     leasts: &mut [u16],
 )
     requires { ⌜ (rules ≤ 256) × (128 ≤ length (now leasts)) ⌝ }
+    ensures { λ _. ⌜ Fallen (now (leasts .entry)) (now (leasts .exit)) 0 ⌝ }
     ensures { λ _. ⌜ ((g : Grammar) → View (now (words .entry)) (now (starts .entry)) n rules g →
         LeastsSound g (now (leasts .entry)) → LeastsSound g (now (leasts .exit))) ⌝ }
 {
@@ -105,25 +106,36 @@ fn follow_least(
     }
 }
 
-// Leasts along chains, from every rule on.
-pub fn follow_leasts(
+// The turn of a rule, and what follows it: 1 where the least of its left side fell, else 0.
+pub fn least_turn(
     words: &[u16],
     starts: &[usize; 256],
     n: usize,
     rules: usize,
+    users: &[u16],
+    r: usize,
     leasts: &mut [u16],
-)
-    requires { ⌜ (rules ≤ 256) × (128 ≤ length (now leasts)) ⌝ }
-    ensures { λ _. ⌜ ((g : Grammar) → View (now (words .entry)) (now (starts .entry)) n rules g →
-        LeastsSound g (now (leasts .entry)) → LeastsSound g (now (leasts .exit))) ⌝ }
+) -> usize
+    requires { ⌜ (rules ≤ 256) × ((r < rules) × (128 ≤ length (now leasts))) ⌝ }
+    ensures { λ fell. ⌜ (fell ≤ 1) × Fallen (now (leasts .entry)) (now (leasts .exit)) fell ⌝ }
+    ensures { λ fell. ⌜ ((g : Grammar) → View (now (words .entry)) (now (starts .entry)) n rules g →
+        Turn (LeastsSound g) (LeastQuiet g) r (now (leasts .entry)) (now (leasts .exit)) fell) ⌝ }
 {
-    let mut users = [NONE; 128];
-    note_users(words, starts, rules, &mut users);
-    let mut r = 0;
-    while r < rules {
-        follow_least(words, starts, n, rules, &users, r, leasts);
-        r += 1;
+    let at = starts[r];
+    let left = word(words, at);
+    if lower_least(left, rules::right(words, at), n, leasts) == 0 {
+        return 0;
     }
+    follow_least(
+        words,
+        starts,
+        n,
+        rules,
+        users,
+        figure_at(users, left),
+        leasts,
+    );
+    1
 }
 
 // Tries a rule, and where a context falls, the rule noted for the last of its symbols, and so on.
@@ -139,6 +151,7 @@ fn follow_context(
     contexts: &mut [u16],
 )
     requires { ⌜ (rules ≤ 256) × (128 ≤ length (now contexts)) ⌝ }
+    ensures { λ _. ⌜ Fallen (now (contexts .entry)) (now (contexts .exit)) 0 ⌝ }
     ensures { λ _. ⌜ ((g : Grammar) →
         Known (now (words .entry)) (now (starts .entry)) n rules (now (sizes .entry)) (now (leasts .entry)) g →
         ContextsSound g (now (contexts .entry)) → ContextsSound g (now (contexts .exit))) ⌝ }
@@ -154,26 +167,40 @@ fn follow_context(
     }
 }
 
-// Contexts along chains, from every rule on.
-pub fn follow_contexts(
+// The turn of a rule, and what follows it: 1 where a context fell, else 0.
+pub fn context_turn(
     words: &[u16],
     starts: &[usize; 256],
     n: usize,
     rules: usize,
     sizes: &[u32; 256],
+    owned: &[u16],
+    r: usize,
     leasts: &[u16],
     contexts: &mut [u16],
-)
-    requires { ⌜ (rules ≤ 256) × (128 ≤ length (now contexts)) ⌝ }
-    ensures { λ _. ⌜ ((g : Grammar) →
+) -> usize
+    requires { ⌜ (rules ≤ 256) × ((r < rules) × (128 ≤ length (now contexts))) ⌝ }
+    ensures { λ fell. ⌜ (fell ≤ 1) × Fallen (now (contexts .entry)) (now (contexts .exit)) fell ⌝ }
+    ensures { λ fell. ⌜ ((g : Grammar) →
         Known (now (words .entry)) (now (starts .entry)) n rules (now (sizes .entry)) (now (leasts .entry)) g →
-        ContextsSound g (now (contexts .entry)) → ContextsSound g (now (contexts .exit))) ⌝ }
+        Turn (ContextsSound g) (ContextQuiet g (now (leasts .entry))) r (now (contexts .entry)) (now (contexts .exit)) fell) ⌝ }
 {
-    let mut owned = [NONE; 128];
-    note_rules(words, starts, rules, &mut owned);
-    let mut r = 0;
-    while r < rules {
-        follow_context(words, starts, n, rules, sizes, &owned, r, leasts, contexts);
-        r += 1;
+    let at = starts[r];
+    let symbols = rules::right(words, at);
+    if context_of_rule(word(words, at), symbols, n, sizes[r], leasts, contexts) == 0 {
+        return 0;
     }
+    let next = figure_at(owned, link(symbols, n));
+    follow_context(
+        words,
+        starts,
+        n,
+        rules,
+        sizes,
+        owned,
+        next,
+        leasts,
+        contexts,
+    );
+    1
 }

@@ -7,6 +7,8 @@ ghost use Rattle.tables.specs.Figures.{Fallen, Round, SizesOf, LeastsDon
 ghost use Rattle.tables.specs.View.{View};
 ghost use Rattle.tables.specs.Figures.{ContextsSound, ContextQuiet, ContextsRest, TotalsOf};
 ghost use Rattle.tables.specs.ContextSteps.{PlaceStep, PlacesStep, ContextStep, Known};
+use crate::chains::context_turn;
+use crate::chains::note_rules;
 use crate::figures::NONE;
 use crate::figures::cap;
 use crate::figures::figure_at;
@@ -85,6 +87,7 @@ fn context_round(
     n: usize,
     rules: usize,
     sizes: &[u32; 256],
+    owned: &[u16],
     up: bool,
     leasts: &[u16],
     contexts: &mut [u16],
@@ -99,15 +102,7 @@ fn context_round(
     let mut i = 0;
     while i < rules {
         let r = in_turn(i, rules, up);
-        let at = starts[r];
-        fell += context_of_rule(
-            word(words, at),
-            rules::right(words, at),
-            n,
-            sizes[r],
-            leasts,
-            contexts,
-        );
+        fell += context_turn(words, starts, n, rules, sizes, owned, r, leasts, contexts);
         i += 1;
     }
     fell
@@ -128,10 +123,12 @@ pub fn context_rounds(
         LeastsDone g (now (leasts .entry)) → SizesOf g (now (leasts .entry)) (now (sizes .entry)) →
         ContextsSound g (now (contexts .entry)) → ContextsRest g (now (leasts .entry)) (now (contexts .exit))) ⌝ }
 {
+    let mut owned = [NONE; 128];
+    note_rules(words, starts, rules, &mut owned);
     let mut fell = 1;
     let mut up = true;
     while 0 < fell {
-        fell = context_round(words, starts, n, rules, sizes, up, leasts, contexts);
+        fell = context_round(words, starts, n, rules, sizes, &owned, up, leasts, contexts);
         up = !up;
     }
 }

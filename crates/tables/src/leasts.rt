@@ -5,13 +5,14 @@ ghost use Rattle.grammar.specs.Words.{Grammar};
 ghost use Rattle.tables.specs.Figures.{Fallen, Round, LeastsSound, LeastQuiet, LeastsRest, LeastsDone, SizesOf};
 ghost use Rattle.tables.specs.View.{View};
 ghost use Rattle.tables.specs.LeastSteps.{SymbolSize, Sized, LeastStep, SizeWhere};
+use crate::chains::least_turn;
+use crate::chains::note_users;
 use crate::figures::NONE;
 use crate::figures::cap;
 use crate::figures::figure_at;
 use crate::figures::in_turn;
 use crate::figures::lower;
 use grammar::rules;
-use grammar::words::word;
 
 // What a rule comes to by the leasts so far: a size, or none where a symbol of it has none yet.
 pub enum Size {
@@ -62,6 +63,7 @@ fn least_round(
     starts: &[usize; 256],
     n: usize,
     rules: usize,
+    users: &[u16],
     up: bool,
     leasts: &mut [u16],
 ) -> usize
@@ -73,8 +75,8 @@ fn least_round(
     let mut fell = 0;
     let mut i = 0;
     while i < rules {
-        let at = starts[in_turn(i, rules, up)];
-        fell += lower_least(word(words, at), rules::right(words, at), n, leasts);
+        let r = in_turn(i, rules, up);
+        fell += least_turn(words, starts, n, rules, users, r, leasts);
         i += 1;
     }
     fell
@@ -92,10 +94,12 @@ pub fn least_rounds(
     ensures { λ _. ⌜ ((g : Grammar) → View (now (words .entry)) (now (starts .entry)) n rules g →
         LeastsSound g (now (leasts .entry)) → LeastsRest g (now (leasts .exit))) ⌝ }
 {
+    let mut users = [NONE; 128];
+    note_users(words, starts, rules, &mut users);
     let mut fell = 1;
     let mut up = false;
     while 0 < fell {
-        fell = least_round(words, starts, n, rules, up, leasts);
+        fell = least_round(words, starts, n, rules, &users, up, leasts);
         up = !up;
     }
 }

@@ -4,8 +4,6 @@ ghost use mathlib.Core.Path.{_≡_};
 ghost use Rattle.tables.specs.Promise.{Tables};
 ghost use Rattle.tables.specs.Rows.{Read, Grown, Placed};
 use crate::TableAnswer;
-use crate::chains::follow_contexts;
-use crate::chains::follow_leasts;
 use crate::choices::choose_places;
 use crate::choices::choose_rules;
 use crate::contexts::context_rounds;
@@ -42,7 +40,6 @@ pub fn of_grammar(
     let mut starts = [0usize; 256];
     rules::find(words, &mut starts);
     let mut leasts = [NONE; 128];
-    follow_leasts(words, &starts, n, rules, &mut leasts);
     least_rounds(words, &starts, n, rules, &mut leasts);
     if let Found::At(a) = first_above(&leasts, n, OVER as usize) {
         return refuse(answers::NO_TREE, a);
@@ -67,7 +64,6 @@ fn of_leasts(
     rule_sizes(words, starts, n, rules, leasts, &mut sizes);
     let mut contexts = [NONE; 128];
     contexts[start] = 0;
-    follow_contexts(words, starts, n, rules, &sizes, leasts, &mut contexts);
     context_rounds(words, starts, n, rules, &sizes, leasts, &mut contexts);
     if let Found::At(a) = first_above(&contexts, n, OVER as usize) {
         return refuse(answers::UNREACHED, a);

@@ -15,7 +15,7 @@ use Rattle.tables.proofs.chains.follow_context.Tie as tie
 
 abbrev Inv-loop : tie.InvT-loop
 Inv-loop words starts n rules sizes owned from leasts contexts₀ r₀ contexts r =
-    (length contexts ≡ length contexts₀) ×
+    (length contexts ≡ length contexts₀) × (weight contexts ≤ weight contexts₀) ×
     ((g : Grammar) → Known words starts n rules sizes leasts g →
     ContextsSound g contexts₀ → ContextsSound g contexts)
 
@@ -23,7 +23,7 @@ abbrev μ-loop : tie.MeasureT-loop
 μ-loop words starts n rules sizes owned from leasts contexts₀ r₀ contexts r = weight contexts
 
 loop-holds : tie.Need-loop-holds Inv-loop μ-loop
-loop-holds c = (refl, λ g known sound. sound)
+loop-holds c = (refl, omega arith, λ g known sound. sound)
 
 mul-at : tie.Need-mul-at Inv-loop μ-loop
 mul-at c = search needs
@@ -54,10 +54,12 @@ returns c =
     let lowered = c .before .before .before in
     let word = lowered .before .before .before in
     let right = word .before in
-    let at = right .before .before .before in
-    λ g known sound.
-    context-kept known (omega arith) (omega (arith, at .loop .inv .0)) (word .word .ensures) (right .right .ensures .0) refl
-    (lowered .context-of-rule .ensures) (at .loop .inv .1 g known sound)
+    let at = right .before .before .before in (
+      omega (arith, at .loop .inv .1, context-fallen (lowered .context-of-rule .ensures)),
+      λ g known sound.
+          context-kept known (omega arith) (omega (arith, at .loop .inv .0)) (word .word .ensures) (right .right .ensures .0) refl
+          (lowered .context-of-rule .ensures) (at .loop .inv .2 g known sound),
+    )
 
 link-requires : tie.Need-link-requires Inv-loop μ-loop
 link-requires c κs = search needs
@@ -75,16 +77,17 @@ loop-again c =
     let right = word .before in
     let at = right .before .before .before in (
       search needs,
+      omega (arith, at .loop .inv .1, context-fallen (lowered .context-of-rule .ensures)),
       λ g known sound.
           context-kept known (omega arith) (omega (arith, at .loop .inv .0)) (word .word .ensures) (right .right .ensures .0) refl
-          (lowered .context-of-rule .ensures) (at .loop .inv .1 g known sound),
+          (lowered .context-of-rule .ensures) (at .loop .inv .2 g known sound),
     )
 
 same-length-2 : tie.Need-same-length-2 Inv-loop μ-loop
 same-length-2 c = search needs
 
 returns-2 : tie.Need-returns-2 Inv-loop μ-loop
-returns-2 c = search needs
+returns-2 c = let inv = c .before .loop .inv in (omega (arith, inv .1), inv .2)
 
 pub follow-context-spec : {M : Type 1} → statement M
 follow-context-spec =

@@ -14,14 +14,14 @@ use Rattle.tables.proofs.chains.follow_least.Tie as tie
 
 abbrev Inv-loop : tie.InvT-loop
 Inv-loop words starts n rules users from leasts₀ r₀ leasts r =
-    (length leasts ≡ length leasts₀) ×
+    (length leasts ≡ length leasts₀) × (weight leasts ≤ weight leasts₀) ×
     ((g : Grammar) → View words starts n rules g → LeastsSound g leasts₀ → LeastsSound g leasts)
 
 abbrev μ-loop : tie.MeasureT-loop
 μ-loop words starts n rules users from leasts₀ r₀ leasts r = weight leasts
 
 loop-holds : tie.Need-loop-holds Inv-loop μ-loop
-loop-holds c = (refl, λ g view sound. sound)
+loop-holds c = (refl, omega arith, λ g view sound. sound)
 
 mul-at : tie.Need-mul-at Inv-loop μ-loop
 mul-at c = search needs
@@ -46,10 +46,12 @@ returns c =
     let lowered = c .before .before .before in
     let right = lowered .before .before in
     let word = right .before in
-    let at = word .before .before .before in
-    λ g view sound.
-    least-kept view (omega arith) (omega (arith, at .loop .inv .0)) (word .word .ensures) (right .right .ensures .0)
-    (lowered .lower-least .ensures) (at .loop .inv .1 g view sound)
+    let at = word .before .before .before in (
+      omega (arith, at .loop .inv .1, step-fallen (lowered .lower-least .ensures)),
+      λ g view sound.
+          least-kept view (omega arith) (omega (arith, at .loop .inv .0)) (word .word .ensures) (right .right .ensures .0)
+          (lowered .lower-least .ensures) (at .loop .inv .2 g view sound),
+    )
 
 figure-at-requires : tie.Need-figure-at-requires Inv-loop μ-loop
 figure-at-requires c κs = search needs
@@ -64,16 +66,17 @@ loop-again c =
     let word = right .before in
     let at = word .before .before .before in (
       search needs,
+      omega (arith, at .loop .inv .1, step-fallen (lowered .lower-least .ensures)),
       λ g view sound.
           least-kept view (omega arith) (omega (arith, at .loop .inv .0)) (word .word .ensures) (right .right .ensures .0)
-          (lowered .lower-least .ensures) (at .loop .inv .1 g view sound),
+          (lowered .lower-least .ensures) (at .loop .inv .2 g view sound),
     )
 
 same-length-2 : tie.Need-same-length-2 Inv-loop μ-loop
 same-length-2 c = search needs
 
 returns-2 : tie.Need-returns-2 Inv-loop μ-loop
-returns-2 c = search needs
+returns-2 c = let inv = c .before .loop .inv in (omega (arith, inv .1), inv .2)
 
 pub follow-least-spec : {M : Type 1} → statement M
 follow-least-spec =

@@ -10,17 +10,11 @@ use Rattle.tables.proofs.worked_out.of_grammar.Tie as tie
 find-requires : tie.Need-find-requires
 find-requires c κs = search needs
 
-slice-aggregate-follow-leasts : tie.Need-slice-aggregate-follow-leasts
-slice-aggregate-follow-leasts c = search needs
-
-follow-leasts-requires : tie.Need-follow-leasts-requires
-follow-leasts-requires c κs = (omega (arith, read-few (c .before .before .before .before .before .before .pre)), search needs)
-
 slice-aggregate-least-rounds : tie.Need-slice-aggregate-least-rounds
 slice-aggregate-least-rounds c = search needs
 
 least-rounds-requires : tie.Need-least-rounds-requires
-least-rounds-requires c κs = (omega (arith, read-few (c .before .before .before .before .before .before .before .before .before .before .pre)), search needs)
+least-rounds-requires c κs = (omega (arith, read-few (c .before .before .before .before .before .before .pre)), search needs)
 
 slice-aggregate-first-above : tie.Need-slice-aggregate-first-above
 slice-aggregate-first-above c = search needs
@@ -41,12 +35,10 @@ returns : tie.Need-returns
 returns c =
     let searched = c .before .before .before .before in
     let rounds = searched .before .before .before in
-    let followed = rounds .before .before .before .before in
-    let found = followed .before .before .before in
+    let found = rounds .before .before .before in
     let p = found .before .before .before .before .pre in
     let view = viewed p _ (found .find .ensures) in
-    let sound = followed .follow-leasts .ensures (p .grammar) view (leasts-start p refl) in
-    let rest = rounds .least-rounds .ensures (p .grammar) view sound in
+    let rest = rounds .least-rounds .ensures (p .grammar) view (leasts-start p refl) in
     refuses-5 (p .grammar) view (p .first) rest (searched .first-above .ensures) (c .before .before .a .given .1) (c .refuse .ensures)
 
 enum-told : tie.Need-enum-told
@@ -59,12 +51,10 @@ of-leasts-requires : tie.Need-of-leasts-requires
 of-leasts-requires c κs =
     let searched = c .before .before .before .before .before in
     let rounds = searched .before .before .before in
-    let followed = rounds .before .before .before .before in
-    let found = followed .before .before .before in
+    let found = rounds .before .before .before in
     let p = found .before .before .before .before .pre in
     let view = viewed p _ (found .find .ensures) in
-    let sound = followed .follow-leasts .ensures (p .grammar) view (leasts-start p refl) in
-    let rest = rounds .least-rounds .ensures (p .grammar) view sound in
+    let rest = rounds .least-rounds .ensures (p .grammar) view (leasts-start p refl) in
     let told = c .before .before .before .enum-told .given .1 in
     grown (p .grammar) view (p .first) rest (searched .first-above .ensures) told
 
@@ -79,8 +69,6 @@ of-grammar-spec =
     tie.close
     (tie.spec
     find-requires
-    slice-aggregate-follow-leasts
-    follow-leasts-requires
     slice-aggregate-least-rounds
     least-rounds-requires
     slice-aggregate-first-above

@@ -20,21 +20,13 @@ mul-contexts c = omega (arith, start-few (c .before .before .before .before .bef
 array-write-contexts : tie.Need-array-write-contexts
 array-write-contexts c = start-few (c .before .before .before .before .before .before .pre)
 
-slice-aggregate-follow-contexts : tie.Need-slice-aggregate-follow-contexts
-slice-aggregate-follow-contexts c = search needs
-
-follow-contexts-requires : tie.Need-follow-contexts-requires
-follow-contexts-requires c κs =
-    let few = view-few (c .before .before .before .before .before .before .before .before .pre .view) in
-    (omega (arith, few), simp length-set (search needs))
-
 slice-aggregate-context-rounds : tie.Need-slice-aggregate-context-rounds
 slice-aggregate-context-rounds c = search needs
 
 context-rounds-requires : tie.Need-context-rounds-requires
 context-rounds-requires c κs =
-    let few = view-few (c .before .before .before .before .before .before .before .before .before .before .before .before .pre .view) in
-    (omega (arith, few), search needs)
+    let few = view-few (c .before .before .before .before .before .before .before .before .pre .view) in
+    (omega (arith, few), simp length-set (search needs))
 
 slice-aggregate-first-above : tie.Need-slice-aggregate-first-above
 slice-aggregate-first-above c = search needs
@@ -54,13 +46,10 @@ refuse-requires c κs = search needs
 returns : tie.Need-returns
 returns c =
     let rounds = c .before .before .before .before .before .before .before in
-    let followed = rounds .before .before .before .before in
-    let sizes = followed .before .before .before .before in
+    let sizes = rounds .before .before .before .before in
     let p = sizes .before .before .before .before .before .pre in
     let sized = sizes .rule-sizes .ensures (p .grammar) (p .view) (p .leasts) in
-    let sound = followed .follow-contexts .ensures (p .grammar) (record { view = p .view; done = p .leasts; sized = sized })
-    (contexts-start p refl) in
-    let rest = rounds .context-rounds .ensures (p .grammar) (p .view) (p .leasts) sized sound in
+    let rest = rounds .context-rounds .ensures (p .grammar) (p .view) (p .leasts) sized (contexts-start p refl) in
     refuses-6 p rest (c .before .before .before .before .first-above .ensures) (c .before .before .a .given .1) (c .refuse .ensures)
 
 enum-told : tie.Need-enum-told
@@ -73,13 +62,10 @@ of-contexts-requires : tie.Need-of-contexts-requires
 of-contexts-requires c κs =
     let searched = c .before .before .before .before .before in
     let rounds = searched .before .before .before in
-    let followed = rounds .before .before .before .before in
-    let sizes = followed .before .before .before .before in
+    let sizes = rounds .before .before .before .before in
     let p = sizes .before .before .before .before .before .pre in
     let sized = sizes .rule-sizes .ensures (p .grammar) (p .view) (p .leasts) in
-    let sound = followed .follow-contexts .ensures (p .grammar) (record { view = p .view; done = p .leasts; sized = sized })
-    (contexts-start p refl) in
-    let rest = rounds .context-rounds .ensures (p .grammar) (p .view) (p .leasts) sized sound in
+    let rest = rounds .context-rounds .ensures (p .grammar) (p .view) (p .leasts) sized (contexts-start p refl) in
     placed p rest (searched .first-above .ensures) (c .before .before .before .enum-told .given .1) sized
 
 same-length : tie.Need-same-length
@@ -96,8 +82,6 @@ of-leasts-spec =
     rule-sizes-requires
     mul-contexts
     array-write-contexts
-    slice-aggregate-follow-contexts
-    follow-contexts-requires
     slice-aggregate-context-rounds
     context-rounds-requires
     slice-aggregate-first-above
