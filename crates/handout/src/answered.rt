@@ -104,7 +104,7 @@ fn of_some(
     )
 }
 
-// Any list. There is little room aside, so that the arrays stay below 20 KB.
+// Any list.
 fn of_many(
     words: &[u16],
     starts: &[usize; 256],
@@ -118,7 +118,7 @@ fn of_many(
 {
     let mut ats = [0u16; MOST_NUMBERS];
     let mut lefts = [0u16; MOST_NUMBERS];
-    let mut aside = [0u16; SOME_NUMBERS];
+    let mut aside = [0u16; MOST_NUMBERS];
     of_list(
         words,
         starts,
