@@ -3,6 +3,10 @@
 //! and now the other is faster.
 use std::mem::MaybeUninit;
 
+#[path = "../examples/vanchiluk.rs"]
+mod vanchiluk;
+pub use vanchiluk::linked::*;
+
 pub const DONE: u64 = 0;
 pub const NEXT: u64 = 1;
 
@@ -16,35 +20,6 @@ pub trait Side {
 
 /// The archive, by include/vanchiluk.h.
 pub struct Proved;
-
-#[link(name = "calls", kind = "static")]
-extern "C" {
-    pub fn vanchiluk_unpack(file: *const u8, octets: usize, words: *mut u16, room: usize, answer: *mut [u64; 4]);
-    pub fn vanchiluk_pack(words: *const u16, count: usize, file: *mut u8, room: usize, answer: *mut [u64; 4]);
-    pub fn vanchiluk_tables(words: *const u16, count: usize, table: *mut u16, room: usize, answer: *mut [u64; 4]);
-    pub fn vanchiluk_next(
-        words: *const u16,
-        words_count: usize,
-        table: *const u16,
-        table_count: usize,
-        marks: *mut u8,
-        marks_count: usize,
-        sentence: *mut u16,
-        sentence_room: usize,
-        derivation: *mut u16,
-        derivation_room: usize,
-        answer: *mut [u64; 4],
-    );
-    pub fn vanchiluk_replay(
-        words: *const u16,
-        words_count: usize,
-        list: *const u16,
-        list_count: usize,
-        sentence: *mut u16,
-        sentence_room: usize,
-        answer: *mut [u64; 4],
-    );
-}
 
 impl Side for Proved {
     #[inline(never)]

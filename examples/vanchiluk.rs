@@ -1,5 +1,6 @@
 //! The five calls for Rust, as safe functions over slices: a slice is never null, and what is lent as `&mut` overlaps nothing
-//! else, which is all that the calls ask. Take it into a program by `mod vanchiluk;`, and give rustc `-L target/staticlib`.
+//! else, which is all that the calls ask. Take it into a program by `mod vanchiluk;`, and give rustc
+//! `--edition 2021 -L target/staticlib`.
 #![allow(dead_code)]
 
 /// "an answer is one of Done, Next, Finished or Refused"
@@ -11,7 +12,8 @@ pub enum Answer {
     Refused { number: u64, place: usize },
 }
 
-mod linked {
+/// As the archive has them (include/vanchiluk.h).
+pub mod linked {
     #[link(name = "calls", kind = "static")]
     extern "C" {
         pub fn vanchiluk_unpack(file: *const u8, octets: usize, words: *mut u16, room: usize, answer: *mut [u64; 4]);

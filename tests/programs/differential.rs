@@ -63,34 +63,9 @@ fn faulty(_: &str) -> Option<Box<dyn Calls>> {
     None
 }
 
-#[link(name = "calls", kind = "static")]
-extern "C" {
-    fn vanchiluk_unpack(file: *const u8, octets: usize, words: *mut u16, room: usize, answer: *mut u64);
-    fn vanchiluk_pack(words: *const u16, count: usize, file: *mut u8, room: usize, answer: *mut u64);
-    fn vanchiluk_tables(words: *const u16, count: usize, table: *mut u16, room: usize, answer: *mut u64);
-    fn vanchiluk_next(
-        words: *const u16,
-        words_count: usize,
-        table: *const u16,
-        table_count: usize,
-        marks: *mut u8,
-        marks_count: usize,
-        sentence: *mut u16,
-        sentence_room: usize,
-        derivation: *mut u16,
-        derivation_room: usize,
-        answer: *mut u64,
-    );
-    fn vanchiluk_replay(
-        words: *const u16,
-        words_count: usize,
-        list: *const u16,
-        list_count: usize,
-        sentence: *mut u16,
-        sentence_room: usize,
-        answer: *mut u64,
-    );
-}
+#[path = "../../examples/vanchiluk.rs"]
+mod vanchiluk;
+use vanchiluk::linked::*;
 
 // ---------------------------------------------------------------- what is lent
 
@@ -341,7 +316,7 @@ impl Test {
     fn unpack(&mut self) -> [u64; 4] {
         self.lend_answer();
         let (file, octets, room) = (self.file.read(), self.file.length(), self.words.length());
-        unsafe { vanchiluk_unpack(file, octets, self.words.write(), room, self.answer.write()) };
+        unsafe { vanchiluk_unpack(file, octets, self.words.write(), room, self.answer.write().cast()) };
         let numbers = self.reference.unpack(self.file.content(), self.words.content_mut());
         self.agree(UNPACK, numbers)
     }
@@ -349,7 +324,7 @@ impl Test {
     fn pack(&mut self) -> [u64; 4] {
         self.lend_answer();
         let (words, count, room) = (self.words.read(), self.words.length(), self.file.length());
-        unsafe { vanchiluk_pack(words, count, self.file.write(), room, self.answer.write()) };
+        unsafe { vanchiluk_pack(words, count, self.file.write(), room, self.answer.write().cast()) };
         let numbers = self.reference.pack(self.words.content(), self.file.content_mut());
         self.agree(PACK, numbers)
     }
@@ -357,7 +332,7 @@ impl Test {
     fn tables(&mut self) -> [u64; 4] {
         self.lend_answer();
         let (words, count, room) = (self.words.read(), self.words.length(), self.table.length());
-        unsafe { vanchiluk_tables(words, count, self.table.write(), room, self.answer.write()) };
+        unsafe { vanchiluk_tables(words, count, self.table.write(), room, self.answer.write().cast()) };
         let numbers = self.reference.tables(self.words.content(), self.table.content_mut());
         self.judge_4(TABLES, numbers)
     }
@@ -379,7 +354,7 @@ impl Test {
                 tokens,
                 self.derivation.write(),
                 rules,
-                self.answer.write(),
+                self.answer.write().cast(),
             )
         };
         let numbers = self.reference.next(
@@ -402,7 +377,7 @@ impl Test {
         self.lend_answer();
         let (words, words_count) = (self.words.read(), self.words.length());
         let (list, list_count, room) = (self.list.read(), self.list.length(), self.sentence.length());
-        unsafe { vanchiluk_replay(words, words_count, list, list_count, self.sentence.write(), room, self.answer.write()) };
+        unsafe { vanchiluk_replay(words, words_count, list, list_count, self.sentence.write(), room, self.answer.write().cast()) };
         let numbers = self.reference.replay(self.words.content(), self.list.content(), self.sentence.content_mut());
         let numbers = self.judge_4(REPLAY, numbers);
         let [kind, first, ..] = numbers;

@@ -232,3 +232,7 @@ module _ {g : Grammar} (ok : InBounds g) where
 
   pub rule-short : {k A : ℕ} {w : List ℕ} → RuleAt g k A w → length w ≤ 32
   rule-short r = rule-ok r .1
+
+-- words are a grammar in one way
+pub reads-unique : (ws : List ℕ) {g h : Grammar} → layout ws ≡ reads g → layout ws ≡ reads h → g ≡ h
+reads-unique ws a b = cc

@@ -55,6 +55,7 @@ pub mod WalkSteps
 pub mod RulePlaces
 pub mod WalkInOrder
 pub mod RulesByNumber
+pub mod RulesInView
 pub mod CodeSettles
 -- The final statements.
 pub mod Main

@@ -14,7 +14,7 @@ use Rattle.grammar.specs.Tree.{Tree, Forest, sentence, sentences, derivation, d
 use Rattle.grammar.specs.Measure.{plain}
 use Rattle.grammar.specs.Least.{ChosenTree, ChosenForest}
 use Rattle.grammar.proofs.SameListing.{same-tree, same-forest, tree-nonterminal}
-use Rattle.tables.proofs.RulesInView.{viewed-right}
+use Rattle.grammar.proofs.RulesInView.{viewed-right}
 use Rattle.handout.specs.declared.lister.Lengths.{Lengths}
 use Rattle.handout.specs.Listing.{Known, SymbolListed, of-terminal, of-nonterminal, Wrote, SymbolWritten, RuleWritten}
 

@@ -9,6 +9,7 @@ use mathlib.Core.Path.{_≡_, refl, ap, sym, _∙_}
 use lib.ListN.{length, getD, set, take, drop, length-append, take-append-drop}
 use lib.Seq.{sets, take-suc}
 use borrow.Author.Tests.{lt-ltb, le-ltb}
+use Rattle.answers.proofs.Stores.{sets-append}
 use Rattle.grammar.specs.Words.{Grammar, R, RuleAt}
 use Rattle.grammar.specs.Tree.{Forest, nil, leaf, child, sentence, sentences, derivation, derivations}
 use Rattle.grammar.specs.Measure.{plain}
@@ -20,17 +21,10 @@ use Rattle.grammar.proofs.RuleNumbers.{rule-number}
 use Rattle.grammar.proofs.Unique.{least-unique, sizes-unique}
 use Rattle.tables.specs.Table.{entry}
 use Rattle.tables.proofs.TablePlaces.{entry-front}
-use Rattle.tables.proofs.RulesInView.{viewed-right}
+use Rattle.grammar.proofs.RulesInView.{viewed-right}
 use Rattle.handout.specs.declared.lister.Lengths.{Lengths}
 use Rattle.handout.specs.Listing.{Known, sizeBy, sizesBy, rightOf, SymbolListed, of-terminal, of-nonterminal, SymbolsListed}
 use Rattle.handout.specs.Listing.{Wrote}
-
--- a run of stores and one more after it
-pub sets-append : (us vs l : List ℕ) (i : ℕ) → sets l i (us ++ vs) ≡ sets (sets l i us) (i + length us) vs
-sets-append [] vs l i = rw (add-zero i)
-sets-append (u ∷ us) vs l i =
-    let e : suc i + length us ≡ i + suc (length us) = omega arith in
-    rw (← e) (sets-append us vs (set l i u) (suc i))
 
 -- one after the other
 module _ {us vs us′ vs′ a b c x y z : List ℕ} {p q r : Lengths} where

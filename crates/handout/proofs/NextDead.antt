@@ -8,7 +8,7 @@ use Rattle.answers.specs.Refusals.{no-tree, unreached}
 use Rattle.grammar.specs.Words.{Grammar, layout, reads}
 use Rattle.grammar.specs.Refusals.{Lowest, NoTree, Unreached, AllTrees}
 use Rattle.tables.specs.Dead.{Dead}
-use Rattle.tables.proofs.FirstRows.{reads-unique}
+use Rattle.grammar.proofs.LayoutExact.{reads-unique}
 use Rattle.tables.proofs.DeadGrammars.{no-tree-dead, unreached-dead, dead-meets}
 use Rattle.handout.specs.Next.{NextPromise, refused, Lent}
 use Rattle.handout.specs.declared.NextAnswer.{NextAnswer}

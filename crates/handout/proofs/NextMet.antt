@@ -17,8 +17,9 @@ use Rattle.grammar.proofs.TreeOfExists.{tree-of-exists}
 use Rattle.tables.specs.Table.{HasTable}
 use Rattle.tables.specs.Promise.{Tested, broken, its, not-its}
 use Rattle.tables.specs.declared.TableTest.{TableTest}
-use Rattle.tables.proofs.Gates.{stop, go}
-use Rattle.tables.proofs.FirstRows.{OfWords, fault, grammar, FromFive, reads-unique}
+use Rattle.answers.proofs.Gates.{stop, go}
+use Rattle.tables.proofs.FirstRows.{OfWords, fault, grammar, FromFive}
+use Rattle.grammar.proofs.LayoutExact.{reads-unique}
 use Rattle.tables.proofs.FirstRowsMet.{words-met, five-met}
 use Rattle.tables.proofs.TestSettles.{test-met}
 use Rattle.handout.specs.Next.{NextPromise, Unused, AllUsed, Wanted, Lent}

@@ -13,7 +13,7 @@ use Rattle.grammar.specs.Derivation.{Derives, ProductionCoverage}
 use Rattle.grammar.specs.Tree.{_∈_}
 use Rattle.grammar.proofs.LayoutExact.{in-bounds}
 use Rattle.grammar.proofs.Coverage.{coverage}
-use Rattle.tables.proofs.FirstRows.{reads-unique}
+use Rattle.grammar.proofs.LayoutExact.{reads-unique}
 use Rattle.handout.specs.Night.{Handout, Night, Over, HandedOut, this, earlier, SentenceOf, UsedIn}
 use Rattle.handout.specs.Night.{Proper, AllProper, none-yet, and-then}
 use Rattle.handout.proofs.NextExact.{next-finished}

@@ -18,7 +18,7 @@ use Rattle.grammar.proofs.Leftmosts.{tree-derives}
 use Rattle.grammar.proofs.SizeIsLength.{size-is-length}
 use Rattle.grammar.proofs.Unique.{total-unique}
 use Rattle.grammar.proofs.Totals.{total-smallest, tree-of-total, tree-of-uses}
-use Rattle.tables.proofs.FirstRows.{reads-unique}
+use Rattle.grammar.proofs.LayoutExact.{reads-unique}
 use Rattle.handout.specs.Next.{NextPromise, Lent}
 use Rattle.handout.specs.Night.{Handout, handout, Night, clear, later, UsedIn, Proper, AllProper, none-yet, and-then}
 use Rattle.handout.specs.declared.NextAnswer.the-variants.{Next}

@@ -13,7 +13,7 @@ use Rattle.grammar.specs.Least.{ChosenTree, ChosenForest, ChosenGap}
 use Rattle.grammar.proofs.SameListing.{same-forest}
 use Rattle.grammar.proofs.Unique.{chosen-unique}
 use Rattle.tables.specs.Table.{entry}
-use Rattle.tables.proofs.RulesInView.{viewed-right}
+use Rattle.grammar.proofs.RulesInView.{viewed-right}
 use Rattle.handout.specs.Listing.{Known, sizeBy, sizesBy, SymbolsListed}
 use Rattle.handout.specs.TreeListing.{before, after, gapTokens, gapRules, tokensOn, rulesOn}
 use Rattle.handout.proofs.Listings.{known-chosen, chosen-rule, terminal-size}

@@ -13,8 +13,7 @@ use Rattle.grammar.proofs.LayoutExact.{layout-exact, in-bounds}
 use Rattle.grammar.proofs.WordsFew.{words-few}
 use Rattle.grammar.proofs.RulePlaces as places
 use Rattle.grammar.proofs.Replay.{stopped, replayed, replay, replay-exact, replay-stops}
-use Rattle.tables.specs.View.{View}
-use Rattle.tables.proofs.RulesInView.{viewed-rule}
+use Rattle.grammar.proofs.RulesInView.{View, viewed-rule}
 use Rattle.handout.specs.Replay.{Replay, row-11, row-3, done}
 use Rattle.handout.specs.ReplaySteps.{side, waiting, formOf, rest, inFront, allFront, stored, Ground, Kept, Onward}
 use Rattle.handout.specs.ReplaySteps.{Bounded, Moved, turned, token, Whole, Ended, Ran}

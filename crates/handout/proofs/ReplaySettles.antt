@@ -13,7 +13,7 @@ use Rattle.grammar.specs.Words.{Grammar, layout, reads}
 use Rattle.grammar.specs.Derivation.{Derives, StopsAt}
 use Rattle.grammar.proofs.Replay.{Replayed, derived, stopped, replay, replay-exact, replay-stops}
 use Rattle.grammar.proofs.Replay.{derives-unique, stops-unique, derives-or-stops}
-use Rattle.tables.proofs.Gates.{Gate, stop, go, Settles, gate-settles}
+use Rattle.answers.proofs.Gates.{Gate, stop, go, Settles, gate-settles}
 use Rattle.tables.proofs.FirstRows.{OfWords, fault, grammar, words-settle}
 use Rattle.tables.proofs.FirstRowsMet.{words-met}
 use Rattle.handout.specs.Replay.{Replay, refused, row-4, row-12, row-11, row-3, done}

@@ -13,8 +13,7 @@ use Rattle.grammar.proofs.RulePlaces as places
 use Rattle.grammar.proofs.RulePlaces.{placeOf}
 use Rattle.grammar.proofs.RuleNumbers.{rule-number}
 use Rattle.grammar.proofs.Replay.{derived, stopped, replayed}
-use Rattle.tables.specs.View.{View}
-use Rattle.tables.proofs.RulesInView.{viewed-rule, viewed-left}
+use Rattle.grammar.proofs.RulesInView.{View, viewed-rule, viewed-left}
 use Rattle.handout.specs.ReplaySteps.{side, formOf, rest, waitingAbove, passing, opening, front, Ground, Kept, Onward}
 use Rattle.handout.specs.ReplaySteps.{Moved, turned, token}
 use Rattle.handout.specs.declared.replayed.Move.the-variants.{On}

@@ -14,7 +14,7 @@ use Rattle.grammar.proofs.SizeIsLength.{size-is-length}
 use Rattle.grammar.proofs.TreeOfExists.{tree-of-exists}
 use Rattle.grammar.proofs.Totals.{tree-of-total}
 use Rattle.grammar.proofs.Unique.{total-unique}
-use Rattle.tables.proofs.RulesInView.{viewed-left}
+use Rattle.grammar.proofs.RulesInView.{viewed-left}
 use Rattle.handout.specs.declared.lister.Lengths.{Lengths}
 use Rattle.handout.specs.Listing.{RuleReady, Wrote, RuleWritten}
 use Rattle.handout.specs.TreeListing.{before, after, tokensOn, rulesOn, SideReady, SideWritten, TreeReady, TreeWritten}

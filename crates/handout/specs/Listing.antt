@@ -15,7 +15,7 @@ use Rattle.grammar.specs.Measure.{plain}
 use Rattle.grammar.specs.Least.{ChosenTree, ChosenForest}
 use Rattle.grammar.proofs.Certificate.{either}
 use Rattle.tables.specs.Table.{HasTable, entry}
-use Rattle.tables.specs.View.{View}
+use Rattle.grammar.proofs.RulesInView.{View}
 use Rattle.handout.specs.declared.lister.Lengths.{Lengths}
 
 -- the words are a grammar's, its rules stand at these indexes, and the table is its own

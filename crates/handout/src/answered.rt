@@ -4,7 +4,7 @@ ghost use Prim.Native.Nat.{ℕ, _≤_};
 ghost use lib.ListN.{length};
 ghost use Rattle.grammar.specs.Words.{Grammar};
 ghost use Rattle.tables.specs.Rows.{Read};
-ghost use Rattle.tables.specs.View.{View};
+ghost use Rattle.grammar.proofs.RulesInView.{View};
 ghost use Rattle.handout.specs.Replay.{Replay};
 use crate::ReplayAnswer;
 use crate::cells::copy_front;

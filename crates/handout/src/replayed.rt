@@ -4,7 +4,7 @@ ghost use mathlib.Core.Path.{_≡_};
 ghost use Prim.Native.Nat.{ℕ, _+_, _-_, _≤_, _<_};
 ghost use lib.ListN.{length, getD};
 ghost use Rattle.grammar.specs.Words.{Grammar};
-ghost use Rattle.tables.specs.View.{View};
+ghost use Rattle.grammar.proofs.RulesInView.{View};
 ghost use Rattle.handout.specs.ReplaySteps.{Ground, Kept, Bounded, Turned, Moved, Ran};
 ghost use Rattle.handout.specs.ReplaySteps.{waitingAbove};
 use crate::cells::narrow;

@@ -9,13 +9,8 @@ use mathlib.Core.Path.{_≡_, refl, sym, ap, _∙_}
 use mathlib.Core.List.{List, [], _∷_, _++_}
 use lib.ListN.{length, take, getD, set, length-append, length-set}
 use lib.Seq.{sets, set-out, length-sets, take-suc}
+use Rattle.answers.proofs.Stores.{sets-append}
 use Rattle.lines.specs.Room.{Written}
-
-pub sets-append : (u v l : List ℕ) (i : ℕ) → sets l i (u ++ v) ≡ sets (sets l i u) (i + length u) v
-sets-append [] v l i = rw (add-zero i)
-sets-append (x ∷ u) v l i =
-    let e : i + length (x ∷ u) ≡ suc i + length u = omega arith in
-    rw e (sets-append u v (set l i x) (suc i))
 
 -- past the end nothing changes
 sets-out : (u l : List ℕ) (i : ℕ) → length l ≤ i → sets l i u ≡ l

@@ -11,7 +11,7 @@ use Rattle.answers.specs.Buffers.{over}
 use Rattle.answers.proofs.WrittenFromFront.{written}
 use Rattle.grammar.specs.Words.{Grammar, R, layout, reads}
 use Rattle.grammar.specs.Tree.{sentence, derivation}
-use Rattle.tables.proofs.FirstRows.{reads-unique}
+use Rattle.grammar.proofs.LayoutExact.{reads-unique}
 use Rattle.handout.specs.Next.{NextPromise, Lent, next, finished}
 use Rattle.handout.specs.Night.{Handout, handout, Night, clear, later, Over}
 use Rattle.handout.specs.declared.NextAnswer.the-variants.{Next, Finished}

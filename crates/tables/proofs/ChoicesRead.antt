@@ -11,7 +11,7 @@ use Rattle.grammar.specs.Words.{Grammar}
 use Rattle.grammar.proofs.ContextCertificate.{Holds}
 use Rattle.grammar.proofs.ContextsExist.{holds-below}
 use Rattle.tables.specs.Table.{entry, totalEntry}
-use Rattle.tables.specs.View.{View}
+use Rattle.grammar.proofs.RulesInView.{View}
 use Rattle.tables.specs.Tests.{Says, ChosenPasses, ContextPasses, StartPasses, ChoicePasses}
 use Rattle.tables.proofs.Telling.{says-eq}
 use Rattle.tables.proofs.SymbolsHeld.{holds-there, held-there}

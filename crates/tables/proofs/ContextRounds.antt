@@ -19,7 +19,6 @@ use Rattle.grammar.proofs.ContextCertificate.{Holds, othersSize}
 use Rattle.grammar.proofs.CappedContexts.{OfOpen}
 use Rattle.grammar.proofs.AtRest.{place-figure}
 use Rattle.tables.specs.Figures.{Turn, figure, Has, capped, Lowered, fell, stayed, turn, LeastsDone}
-use Rattle.tables.specs.View.{View}
 use Rattle.tables.specs.Figures.{ContextsSound, ContextQuiet}
 use Rattle.tables.specs.ContextSteps.{PlaceStep, skipped, tried, PlacesStep, no-symbol, symbol, ContextStep, without, with}
 use Rattle.tables.specs.ContextSteps.{Known}
@@ -28,7 +27,7 @@ use Rattle.tables.proofs.DoneLeasts.{done-certificate}
 use Rattle.tables.proofs.ContextsFall.{context-few, context-fallen, context-length}
 use Rattle.tables.proofs.FiguresKept.{lowered-no-higher, lowered-known}
 use Rattle.tables.proofs.RoundSoFar.{SoFar}
-use Rattle.tables.proofs.RulesInView.{viewed-rule, viewed-left, viewed-right, viewed-room}
+use Rattle.grammar.proofs.RulesInView.{View, viewed-rule, viewed-left, viewed-right, viewed-room}
 
 abbrev OpenCut : Grammar → ℕ → ℕ → Type 0
 OpenCut g A y = OfOpen plain (plainCap 4096) g A y

@@ -14,7 +14,7 @@ use Rattle.grammar.proofs.Decided.{trees?, all-reached?}
 use Rattle.tables.specs.Dead.{Dead}
 use Rattle.tables.specs.Promise.{Tables, refused}
 use Rattle.tables.specs.declared.TableAnswer.{TableAnswer}
-use Rattle.tables.proofs.FirstRows.{reads-unique}
+use Rattle.grammar.proofs.LayoutExact.{reads-unique}
 use Rattle.tables.proofs.TablesExact.{tables-refuses}
 
 pub no-tree-dead : {g : Grammar} {A : ℕ} → NoTree g A → Dead g

@@ -8,14 +8,11 @@ use mathlib.Core.List.{List}
 use Rattle.answers.specs.Refusals.{Refusal, no-tree, unreached, oversize}
 use Rattle.grammar.specs.Words.{Grammar, layout, reads, faults}
 use Rattle.grammar.specs.Refusals.{Lowest, NoTree, AllTrees, Unreached, AllReached, Oversize, AllFit, Accepted}
-use Rattle.grammar.proofs.LayoutExact.{rule-below}
+use Rattle.grammar.proofs.LayoutExact.{rule-below, reads-unique}
 use Rattle.grammar.proofs.Unique.{lowest-unique, total-unique}
-use Rattle.tables.proofs.Gates.{Gate, go, Settles, gate-settles}
+use Rattle.answers.proofs.Gates.{Gate, go, Settles, gate-settles}
 
--- words are a grammar in one way, or break at one place
-pub reads-unique : (ws : List ℕ) {g h : Grammar} → layout ws ≡ reads g → layout ws ≡ reads h → g ≡ h
-reads-unique ws a b = cc
-
+-- words break at one place, and are no grammar then
 faults-unique : (ws : List ℕ) {p q : ℕ} → layout ws ≡ faults p → layout ws ≡ faults q → p ≡ q
 faults-unique ws a b = cc
 

@@ -9,7 +9,7 @@ use Rattle.grammar.specs.Words.{Grammar, Judged, layout, reads, faults, InBound
 use Rattle.grammar.specs.Refusals.{Lowest, NoTree, AllTrees, Unreached, AllReached, Oversize, AllFit, Accepted}
 use Rattle.grammar.proofs.LayoutExact.{in-bounds}
 use Rattle.grammar.proofs.Decided.{trees?, all-reached?, all-fit?}
-use Rattle.tables.proofs.Gates.{stop, go}
+use Rattle.answers.proofs.Gates.{stop, go}
 use Rattle.tables.proofs.FirstRows.{OfWords, fault, grammar, FromFive, FromSix, FromSeven, not-fit}
 
 pub words-met : {Out : Type 0} (words : List ℕ) (broken : ℕ → Out) (Rows : Grammar → Out → Type 0) →

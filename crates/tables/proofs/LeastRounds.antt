@@ -15,12 +15,11 @@ use Rattle.grammar.proofs.CappedLeasts.{OfTree}
 use Rattle.grammar.proofs.Certificate.{wordSize}
 use Rattle.grammar.proofs.AtRest.{rule-figure}
 use Rattle.tables.specs.Figures.{Turn, figure, capped, Lowered, fell, stayed, Fallen, HaveIn, turn, LeastsSound, LeastQuiet}
-use Rattle.tables.specs.View.{View}
 use Rattle.tables.specs.LeastSteps.{SizeOf, LeastStep, not-yet, tried}
 use Rattle.tables.proofs.FiguresFall.{lowered-fallen}
 use Rattle.tables.proofs.FiguresKept.{lowered-once, lowered-length, lowered-known}
 use Rattle.tables.proofs.RoundSoFar.{SoFar}
-use Rattle.tables.proofs.RulesInView.{viewed-rule, viewed-left, viewed-right, viewed-room}
+use Rattle.grammar.proofs.RulesInView.{View, viewed-rule, viewed-left, viewed-right, viewed-room}
 
 pub step-fallen : {A n k : ℕ} {w vs us : List ℕ} → LeastStep A w n vs us k → Fallen vs us k
 step-fallen (not-yet h) = omega arith

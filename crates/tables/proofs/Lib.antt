@@ -13,7 +13,6 @@ pub mod TableExists
 pub mod SizeApart
 pub mod TableWorkedOut
 -- What the promises settle.
-pub mod Gates
 pub mod FirstRows
 pub mod FirstRowsMet
 pub mod TablesSettles
@@ -21,7 +20,6 @@ pub mod TestSettles
 pub mod TablesExact
 pub mod DeadGrammars
 -- The rounds.
-pub mod RulesInView
 pub mod FiguresFall
 pub mod FiguresKept
 pub mod RoundsCompose

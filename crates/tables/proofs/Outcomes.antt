@@ -24,7 +24,7 @@ use Rattle.tables.specs.Table.{HasTable, tableLength}
 use Rattle.tables.specs.Promise.{Tables, row-5, row-6, row-7, row-3, done, Tested, its, not-its}
 use Rattle.tables.specs.Tests.{Says}
 use Rattle.tables.specs.Figures.{figure, FirstAbove, found-none, LeastsRest, ContextsRest, SizesOf, TotalsOf}
-use Rattle.tables.specs.View.{View}
+use Rattle.grammar.proofs.RulesInView.{View}
 use Rattle.tables.specs.Figures.{Empty, LeastsSound, ContextsSound, ChosenOf, PlacesOf}
 use Rattle.tables.specs.Rows.{Read, Grown, Placed}
 use Rattle.tables.specs.declared.TableAnswer.{TableAnswer}

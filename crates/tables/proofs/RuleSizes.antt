@@ -10,10 +10,9 @@ use Rattle.grammar.specs.Rules.{rightAt}
 use Rattle.grammar.proofs.Certificate.{wordSize}
 use Rattle.grammar.proofs.RuleNumbers.{rule-number}
 use Rattle.tables.specs.Figures.{figure, LeastsDone, SizesOf}
-use Rattle.tables.specs.View.{View}
 use Rattle.tables.specs.LeastSteps.{SizeWhere}
 use Rattle.tables.proofs.WrittenInOrder.{written-more}
-use Rattle.tables.proofs.RulesInView.{viewed-right}
+use Rattle.grammar.proofs.RulesInView.{View, viewed-right}
 
 -- x is the size of rule k; and the sizes of the rules below r
 abbrev SizeHere : Grammar → List ℕ → ℕ → ℕ → Type 0

@@ -7,8 +7,7 @@ use lib.ListN.{getD}
 use Rattle.grammar.specs.Words.{Grammar}
 use Rattle.grammar.proofs.RuleNumbers.{rule-number}
 use Rattle.tables.specs.Figures.{figure, capped, TotalsOf}
-use Rattle.tables.specs.View.{View}
-use Rattle.tables.proofs.RulesInView.{viewed-left}
+use Rattle.grammar.proofs.RulesInView.{View, viewed-left}
 
 -- the total of rule k, whatever the words
 abbrev pub totalAt : (ws starts sizes us : List ℕ) → ℕ → ℕ

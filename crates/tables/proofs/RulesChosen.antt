@@ -7,10 +7,9 @@ use native.Mathlib.Omega.{arith}
 use lib.ListN.{length, getD}
 use Rattle.grammar.specs.Words.{Grammar, RuleAt}
 use Rattle.tables.specs.Figures.{figure, RuleFits, ChosenOf}
-use Rattle.tables.specs.View.{View}
 use Rattle.tables.specs.Noted.{NotedWhere, does, does-not}
 use Rattle.tables.proofs.FirstsNoted.{firsts-past, firsts-noted}
-use Rattle.tables.proofs.RulesInView.{viewed-rule, viewed-left, viewed-room}
+use Rattle.grammar.proofs.RulesInView.{View, viewed-rule, viewed-left, viewed-room}
 
 module _ {ws starts : List ℕ} {n rules : ℕ} {g : Grammar} (view : View ws starts n rules g) (vs sizes : List ℕ) (r : ℕ) where
   -- the left side of rule r, as it is read

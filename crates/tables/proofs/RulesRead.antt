@@ -12,7 +12,7 @@ use Rattle.grammar.specs.Rules.{rightAt}
 use Rattle.grammar.proofs.LayoutExact.{in-bounds, rule-at, rule-below}
 use Rattle.grammar.proofs.RulesByNumber.{left-of-rule, right-of-rule}
 use Rattle.tables.specs.Table.{totalEntry}
-use Rattle.tables.specs.View.{View}
+use Rattle.grammar.proofs.RulesInView.{View}
 use Rattle.tables.specs.Tests.{Says, PlacesPass, SizePasses, one-fails, all-pass, LeftPasses, RulePasses}
 use Rattle.tables.proofs.Telling.{says-same}
 

@@ -18,7 +18,8 @@ use Rattle.tables.specs.Promise.{Tables, Tested, refused, row-4, row-5, 
 use Rattle.tables.specs.declared.TableAnswer.{TableAnswer}
 use Rattle.tables.specs.declared.TableAnswer.the-variants.{Done}
 use Rattle.tables.specs.declared.TableTest.the-variants.{Its}
-use Rattle.tables.proofs.FirstRows.{reads-unique, Are}
+use Rattle.grammar.proofs.LayoutExact.{reads-unique}
+use Rattle.tables.proofs.FirstRows.{Are}
 use Rattle.tables.proofs.TableExists.{table-exists}
 use Rattle.tables.proofs.TablesSettles.{tables-settles}
 

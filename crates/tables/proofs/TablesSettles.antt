@@ -16,7 +16,7 @@ use Rattle.tables.specs.Table.{IsTable, tableLength}
 use Rattle.tables.specs.Promise.{Tables, refused, row-4, row-5, row-6, row-7, row-3, done}
 use Rattle.tables.specs.declared.TableAnswer.{TableAnswer}
 use Rattle.tables.specs.declared.TableAnswer.the-variants.{Done}
-use Rattle.tables.proofs.Gates.{Gate, stop, go, Settles, gate-settles}
+use Rattle.answers.proofs.Gates.{Gate, stop, go, Settles, gate-settles}
 use Rattle.tables.proofs.FirstRows.{OfWords, fault, grammar, words-settle, FromFive, five-settles}
 use Rattle.tables.proofs.FirstRowsMet.{words-met, five-met}
 use Rattle.tables.proofs.TableIsOne.{table-unique}

@@ -13,7 +13,7 @@ use Rattle.tables.specs.Table.{IsTable, HasTable, tableLength}
 use Rattle.tables.specs.Promise.{Tested, broken, its, not-its}
 use Rattle.tables.specs.declared.TableTest.{TableTest}
 use Rattle.tables.specs.declared.TableTest.the-variants.{Its, NotIts, Broken}
-use Rattle.tables.proofs.Gates.{Gate, stop, go, Settles, gate-settles}
+use Rattle.answers.proofs.Gates.{Gate, stop, go, Settles, gate-settles}
 use Rattle.tables.proofs.FirstRows.{Are, OfWords, fault, grammar, words-settle}
 use Rattle.tables.proofs.FirstRowsMet.{words-met, accepted?}
 use Rattle.tables.proofs.TableIsOne.{table-unique}

@@ -5,7 +5,7 @@ use mathlib.Core.Logic.{_⊎_}
 use mathlib.Core.List.{List, [], _∷_}
 use Rattle.grammar.specs.Words.{Grammar}
 use Rattle.tables.specs.Figures.{figure, Has, capped, Lowered, LeastsDone, SizesOf}
-use Rattle.tables.specs.View.{View}
+use Rattle.grammar.proofs.RulesInView.{View}
 
 -- Over leasts vs, where the symbols below n are nonterminals and whole is the size of a rule and the context of its left side: a
 -- nonterminal s of the rule lowers its own context to what is left of whole without its least.

@@ -3,7 +3,6 @@ pub mod Table
 pub mod Promise
 pub mod Dead
 -- What the private functions promise each other; nobody has to believe these.
-pub mod View
 pub mod Figures
 pub mod LeastSteps
 pub mod ContextSteps

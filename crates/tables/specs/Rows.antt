@@ -6,7 +6,7 @@ use mathlib.Core.Path.{_≡_}
 use mathlib.Core.List.{List}
 use Rattle.grammar.specs.Words.{Grammar, R, layout, reads}
 use Rattle.tables.specs.Figures.{Has, LeastsDone, SizesOf, ContextsRest}
-use Rattle.tables.specs.View.{View}
+use Rattle.grammar.proofs.RulesInView.{View}
 
 -- 4 is passed: the words are a grammar with these numbers
 pub record Read (ws : List ℕ) (n start rules : ℕ) : Type 0 where

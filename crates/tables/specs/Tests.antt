@@ -15,7 +15,7 @@ use Rattle.grammar.specs.Rules.{rightAt}
 use Rattle.grammar.proofs.Certificate.{wordSize}
 use Rattle.grammar.proofs.ContextCertificate.{Holds}
 use Rattle.tables.specs.Table.{tableLength, entry, totalEntry}
-use Rattle.tables.specs.View.{View}
+use Rattle.grammar.proofs.RulesInView.{View}
 
 -- a test's answer: it holds, or it does not
 abbrev pub Says : Bool → Type 0 → Type 0

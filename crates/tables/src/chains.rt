@@ -5,7 +5,7 @@ ghost use Prim.Native.Nat.{_≤_, _<_};
 ghost use lib.ListN.{length};
 ghost use Rattle.grammar.specs.Words.{Grammar};
 ghost use Rattle.tables.specs.Figures.{Fallen, Turn, LeastsSound, LeastQuiet, ContextsSound, ContextQuiet};
-ghost use Rattle.tables.specs.View.{View};
+ghost use Rattle.grammar.proofs.RulesInView.{View};
 ghost use Rattle.tables.specs.ContextSteps.{Known};
 use crate::contexts::context_of_rule;
 use crate::figures::NONE;

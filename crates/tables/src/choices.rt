@@ -4,7 +4,7 @@ ghost use Prim.Native.Nat.{ℕ, _+_, _*_, _≤_, _<_};
 ghost use lib.ListN.{length};
 ghost use Rattle.grammar.specs.Words.{Grammar};
 ghost use Rattle.tables.specs.Figures.{figure, Empty, ChosenOf, PlacesOf};
-ghost use Rattle.tables.specs.View.{View};
+ghost use Rattle.grammar.proofs.RulesInView.{View};
 ghost use Rattle.tables.specs.Noted.{Noted, NotedWhere, PlacesNoted};
 use crate::figures::NONE;
 use crate::figures::figure_at;

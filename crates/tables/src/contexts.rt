@@ -4,7 +4,7 @@ ghost use Prim.Native.Nat.{ℕ, _≤_, _<_};
 ghost use lib.ListN.{length};
 ghost use Rattle.grammar.specs.Words.{Grammar};
 ghost use Rattle.tables.specs.Figures.{Fallen, Round, SizesOf, LeastsDone};
-ghost use Rattle.tables.specs.View.{View};
+ghost use Rattle.grammar.proofs.RulesInView.{View};
 ghost use Rattle.tables.specs.Figures.{ContextsSound, ContextQuiet, ContextsRest, TotalsOf};
 ghost use Rattle.tables.specs.ContextSteps.{PlaceStep, PlacesStep, ContextStep, Known};
 use crate::chains::context_turn;

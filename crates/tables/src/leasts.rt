@@ -3,7 +3,7 @@ ghost use Prim.Native.Nat.{_≤_};
 ghost use lib.ListN.{length};
 ghost use Rattle.grammar.specs.Words.{Grammar};
 ghost use Rattle.tables.specs.Figures.{Fallen, Round, LeastsSound, LeastQuiet, LeastsRest, LeastsDone, SizesOf};
-ghost use Rattle.tables.specs.View.{View};
+ghost use Rattle.grammar.proofs.RulesInView.{View};
 ghost use Rattle.tables.specs.LeastSteps.{SymbolSize, Sized, LeastStep, SizeWhere};
 use crate::chains::least_turn;
 use crate::chains::note_users;

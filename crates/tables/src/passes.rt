@@ -7,7 +7,7 @@ ghost use lib.ListN.{length};
 ghost use Rattle.grammar.specs.Words.{Grammar};
 ghost use Rattle.grammar.specs.Refusals.{Accepted};
 ghost use Rattle.tables.specs.Table.{HasTable, entry};
-ghost use Rattle.tables.specs.View.{View};
+ghost use Rattle.grammar.proofs.RulesInView.{View};
 ghost use Rattle.tables.specs.Tests.{Says, Answer, PlacePasses, SizePasses, LeftPasses, RuleAnswer, RulesPass};
 ghost use Rattle.tables.specs.Tests.{ChosenPasses, ContextPasses, StartPasses, ChoicePasses, ChoicesPass};
 use grammar::rules;

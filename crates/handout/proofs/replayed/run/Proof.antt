@@ -4,7 +4,7 @@ use borrow.Author.Needs.{needs}
 use mathlib.Core.Path.{_≡_, refl}
 use lib.ListN.{length}
 use Rattle.grammar.specs.Words.{Grammar}
-use Rattle.tables.specs.View.{View}
+use Rattle.grammar.proofs.RulesInView.{View}
 use Rattle.handout.specs.ReplaySteps.{Kept, toDo}
 use Rattle.handout.proofs.ReplayRun.{Held, held-start, kept-start, onward, held-on, held-end, held-stop}
 use Rattle.handout.proofs.replayed.run.Statement.{statement}

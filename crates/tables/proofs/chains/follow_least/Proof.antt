@@ -6,7 +6,7 @@ use native.Mathlib.Omega.{arith}
 use lib.ListN.{length}
 use Rattle.grammar.specs.Words.{Grammar}
 use Rattle.tables.specs.Figures.{weight, LeastsSound}
-use Rattle.tables.specs.View.{View}
+use Rattle.grammar.proofs.RulesInView.{View}
 use Rattle.tables.proofs.LeastRounds.{step-fallen, least-kept}
 use borrow.Author.Needs.{needs}
 use Rattle.tables.proofs.chains.follow_least.Statement.{statement}

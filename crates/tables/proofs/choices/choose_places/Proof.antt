@@ -8,9 +8,8 @@ use lib.ListN.{length}
 use Rattle.grammar.specs.Words.{Grammar}
 use Rattle.grammar.proofs.LayoutExact.{in-bounds, rule-short}
 use Rattle.tables.specs.Figures.{Empty, PlacesOf}
-use Rattle.tables.specs.View.{View}
 use Rattle.tables.proofs.FirstsNoted.{firsts-empty, empty-room}
-use Rattle.tables.proofs.RulesInView.{viewed-rule, viewed-right, viewed-room}
+use Rattle.grammar.proofs.RulesInView.{View, viewed-rule, viewed-right, viewed-room}
 use Rattle.tables.proofs.choices.choose_places.Statement.{statement}
 use Rattle.tables.proofs.choices.choose_places.Tie as tie
 

@@ -7,9 +7,8 @@ use borrow.Author.Needs.{needs}
 use lib.ListN.{length}
 use Rattle.grammar.specs.Words.{Grammar}
 use Rattle.tables.specs.Figures.{Empty, ChosenOf}
-use Rattle.tables.specs.View.{View}
 use Rattle.tables.proofs.FirstsNoted.{firsts-empty, empty-room}
-use Rattle.tables.proofs.RulesInView.{viewed-room}
+use Rattle.grammar.proofs.RulesInView.{View, viewed-room}
 use Rattle.tables.proofs.RulesChosen.{rule-chosen}
 use Rattle.tables.proofs.choices.choose_rules.Statement.{statement}
 use Rattle.tables.proofs.choices.choose_rules.Tie as tie

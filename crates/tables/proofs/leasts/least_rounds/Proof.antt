@@ -6,7 +6,7 @@ use native.Mathlib.Omega.{arith}
 use lib.ListN.{length}
 use Rattle.grammar.specs.Words.{Grammar}
 use Rattle.tables.specs.Figures.{weight, LeastsSound, LeastQuiet}
-use Rattle.tables.specs.View.{View}
+use Rattle.grammar.proofs.RulesInView.{View}
 use Rattle.tables.proofs.RoundsCompose.{Rounds, rounds-none, rounds-more}
 use borrow.Author.Needs.{needs}
 use Rattle.tables.proofs.leasts.least_rounds.Statement.{statement}

@@ -7,7 +7,7 @@ use borrow.Author.Needs.{needs}
 use lib.ListN.{length, length-set}
 use Rattle.grammar.specs.Words.{Grammar}
 use Rattle.tables.specs.Figures.{LeastsDone}
-use Rattle.tables.specs.View.{View}
+use Rattle.grammar.proofs.RulesInView.{View}
 use Rattle.tables.proofs.RuleSizes.{SizesTo, sizes-more, sizes-all}
 use Rattle.tables.proofs.leasts.rule_sizes.Statement.{statement}
 use Rattle.tables.proofs.leasts.rule_sizes.Tie as tie

@@ -4,7 +4,7 @@ use Prim.Native.Nat.{ℕ, _≤_, _<_, _-_}
 use native.Mathlib.Omega.{arith}
 use borrow.Author.Count.{below-more}
 use Rattle.grammar.specs.Words.{Grammar}
-use Rattle.tables.specs.View.{View}
+use Rattle.grammar.proofs.RulesInView.{View}
 use Rattle.tables.specs.Tests.{ChoicePasses}
 use Rattle.tables.proofs.Telling.{told, refuted}
 use borrow.Author.Needs.{needs}

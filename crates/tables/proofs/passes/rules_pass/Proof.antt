@@ -6,7 +6,7 @@ use mathlib.Core.List.{List}
 use borrow.Author.Count.{below-more}
 use Rattle.grammar.specs.Words.{Grammar, RuleAt}
 use Rattle.tables.specs.Table.{totalEntry}
-use Rattle.tables.specs.View.{View}
+use Rattle.grammar.proofs.RulesInView.{View}
 use Rattle.tables.specs.Tests.{RulePasses}
 use Rattle.tables.proofs.Telling.{told, refuted}
 use Rattle.tables.proofs.RulesRead.{below-rules, rule-answered}

@@ -1,16 +1,23 @@
--- What the functions read of a rule by its number, where the words are a grammar's and the starts are its rules' places: the
--- rule's left side and its right side. Assumes nothing.
+-- What functions of the layers above know of words and read of a rule by its number, where the words are a grammar's and the
+-- starts are its rules' places: the rule's left side and its right side. Assumes nothing.
 use mathlib.Core.Path.{_≡_, ap, _∙_}
 use mathlib.Core.List.{List}
 use Prim.Native.Nat.{ℕ, _≤_, _<_}
 use native.Mathlib.Omega.{arith}
 use lib.ListN.{getD}
-use Rattle.grammar.specs.Words.{Grammar, RuleAt}
+use Rattle.grammar.specs.Words.{Grammar, RuleAt, R, layout, reads}
 use Rattle.grammar.specs.Rules.{rightAt}
 use Rattle.grammar.proofs.LayoutExact.{in-bounds, rule-at}
 use Rattle.grammar.proofs.RuleNumbers.{rule-number}
 use Rattle.grammar.proofs.RulesByNumber.{left-of-rule, right-of-rule}
-use Rattle.tables.specs.View.{View}
+use Rattle.grammar.proofs.RulePlaces.{placeOf}
+
+-- what the functions know of the words: a grammar of n nonterminals and so many rules, which stand at these indexes
+pub record View (ws starts : List ℕ) (n rules : ℕ) (g : Grammar) : Type 0 where
+  pub is : layout ws ≡ reads g
+  pub begin : (k : ℕ) → k < R g → getD starts k 0 ≡ placeOf g k
+  pub nonterminals : n ≡ g .N
+  pub all-rules : rules ≡ R g
 
 module _ {ws starts : List ℕ} {n rules : ℕ} {g : Grammar} (view : View ws starts n rules g) where
   pub viewed-rule : (k : ℕ) → k < rules → (A : ℕ) × (w : List ℕ) × RuleAt g k A w
