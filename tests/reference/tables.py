@@ -14,8 +14,8 @@ WORDS are numbers, and N*W stands for N times W. The table buffer has ROOM words
     ROOM NAME : done LENGTH kept TEST alone, TABLE        or        ROOM NAME : refused NUMBER PLACE kept TEST
 
 `kept` says that what lies past the written length, or all of the buffer where the call refused, has its old content.
-TEST is what `test` says of the words and the buffer afterwards: its, not its, or broken PLACE. `alone` says that it answers
-`not its` for each table that has one word larger by one.
+TEST is what `test` says of the words and the buffer afterwards: its RULES, not its, or refused NUMBER PLACE, for 4 to 7. `alone`
+says that it answers `not its` for each table that has one word larger by one.
 """
 import sys
 
@@ -437,10 +437,12 @@ def spelled(words):
 def answered(words, room):
     try:
         table = table_of(words, room)
-        return f'done {len(table)} kept its alone, ' + ' '.join(map(str, table))
+        rules = len(table) - 5 * words[0]
+        return f'done {len(table)} kept its {rules} alone, ' + ' '.join(map(str, table))
     except Refused as refused:
         number, place = refused.args
-        return f'refused {number} {place} kept ' + (f'broken {place}' if number == 4 else 'not its')
+        tested = 'not its' if number == 3 else f'refused {number} {place}'
+        return f'refused {number} {place} kept {tested}'
 
 
 def main(wanted):

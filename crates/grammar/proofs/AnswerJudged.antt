@@ -5,7 +5,10 @@ use Prim.Native.Nat.{ℕ}
 use lib.ListN.{getD, drop}
 use Rattle.grammar.specs.Words.{Rule, Judged, reads, faults, with-head, lefts, layout}
 use Rattle.grammar.specs.Judge.{answerOf}
-use Rattle.grammar.specs.JudgeParts.{numberOf, Head, Headed, Tabled}
+use Rattle.answers.specs.Buffers.{over}
+use Rattle.grammar.specs.Walk.{walkStart}
+use Rattle.grammar.specs.Rules.{startsFrom}
+use Rattle.grammar.specs.JudgeParts.{numberOf, Head, Headed, Tabled, Noted}
 use Rattle.grammar.specs.declared.layout.LayoutAnswer.{LayoutAnswer}
 use Rattle.grammar.specs.declared.layout.LayoutAnswer.the-variants as answer
 use Rattle.grammar.specs.declared.layout.Part.{Part}
@@ -30,6 +33,11 @@ module _ (ws : List ℕ) (at N T S : ℕ) (h : Head ws at) (n : N ≡ getD ws 0 
 
   pub rules-faulted : (r : Part) (p : ℕ) → Tabled ws N T at r → r ≡ part.Fault p → answer.Fault p ≡ answerOf (layout ws)
   rules-faulted r p h e = after-head (faults p) (rw e at h)
+
+-- and where the rules stand is noted
+pub rules-noted : (ws before after : List ℕ) (r : Part) (k : ℕ) → Noted ws before r after → r ≡ part.Fit k →
+    after ≡ over (startsFrom 256 ws walkStart) before
+rules-noted ws before after r k h e = rw e at h
 
 pub head-faulted : (ws : List ℕ) (r : Part) (p : ℕ) → Headed ws r → r ≡ part.Fault p → answer.Fault p ≡ answerOf (layout ws)
 head-faulted ws r p h e = ap answerOf (sym (rw e at h))

@@ -1,11 +1,13 @@
--- Any two outcomes that a promise of the code allows coincide. The code is lent nothing that it could write. Assumes nothing.
-use mathlib.Core.Path.{_≡_, sym, _∙_}
+-- Any two outcomes that a promise of the code allows coincide. Only `read` is lent what it could write. Assumes nothing.
+use mathlib.Core.Path.{_≡_, ap, sym, _∙_}
 use mathlib.Core.List.{List}
-use Prim.Native.Nat.{ℕ}
+use Prim.Native.Nat.{ℕ, _≤_, _<_}
+use native.Mathlib.Decide.{decLt}
+use native.Mathlib.Omega.{arith}
 use lib.ListN.{getD}
 use denote.Ref.{RefT}
 use Rattle.grammar.specs.Words.{layout}
-use Rattle.grammar.specs.Judge.{answerOf}
+use Rattle.grammar.specs.Judge.{answerOf, startsRead}
 use Rattle.grammar.specs.Walk.{WalkPlace, walkStart, stepAt, walkAt, takenFrom}
 use Rattle.grammar.specs.declared.layout.LayoutAnswer.{LayoutAnswer}
 use Rattle.grammar.specs.declared.walk.Step.{Step}
@@ -27,3 +29,18 @@ walk-next-settles w p q = p ∙ sym q
 
 pub word-settles : (ws : List ℕ) (i : ℕ) {r s : ℕ} → r ≡ getD ws i 0 → s ≡ getD ws i 0 → r ≡ s
 word-settles ws i p q = p ∙ sym q
+
+pub read-settles : (ws before : List ℕ) {r s : LayoutAnswer} {after after′ : List ℕ} →
+    r ≡ answerOf (layout ws) → after ≡ startsRead ws before r → s ≡ answerOf (layout ws) → after′ ≡ startsRead ws before s →
+    (r ≡ s) × (after ≡ after′)
+read-settles ws before p e q f =
+    let same = p ∙ sym q in
+    (same, e ∙ ap (startsRead ws before) same ∙ sym f)
+
+pub index-settles : (starts : List ℕ) (k : ℕ) {r s : ℕ} → (k < 256 → r ≡ getD starts k 0) × (256 ≤ k → r ≡ 0) →
+    (k < 256 → s ≡ getD starts k 0) × (256 ≤ k → s ≡ 0) → r ≡ s
+index-settles starts k {r} {s} p q = go (decLt k 256)
+  where
+    go : Dec (k < 256) → r ≡ s
+    go (yes h) = p .0 h ∙ sym (q .0 h)
+    go (no h) = let le : 256 ≤ k = omega arith in p .1 le ∙ sym (q .1 le)

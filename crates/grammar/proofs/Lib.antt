@@ -55,7 +55,9 @@ pub mod WalkSteps
 pub mod RulePlaces
 pub mod WalkInOrder
 pub mod RulesByNumber
+pub mod StartsNoted
 pub mod RulesInView
+pub mod WordsRead
 pub mod CodeSettles
 -- The final statements.
 pub mod Main

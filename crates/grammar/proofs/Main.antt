@@ -14,7 +14,7 @@ use Rattle.grammar.specs.Tree.{Tree, sentence, derivation, Uses, StandsI
 use Rattle.grammar.specs.Measure.{Cost, plain, treeCost}
 use Rattle.grammar.specs.Least.{Least, Chosen, Context, ContextChoice, Total, TreeOf}
 use Rattle.grammar.specs.Refusals.{AllTrees, AllReached, Reached, NoTree, Unreached, Oversize, AllFit}
-use Rattle.grammar.specs.Judge.{answerOf}
+use Rattle.grammar.specs.Judge.{answerOf, startsRead}
 use Rattle.grammar.specs.Walk.{WalkPlace, walkStart, stepAt, walkAt, takenFrom}
 use Rattle.grammar.specs.Rules.{startsFrom, rightAt}
 use Rattle.grammar.specs.declared.layout.LayoutAnswer.{LayoutAnswer}
@@ -206,7 +206,7 @@ pub no-figure-unreached : (c : Cost) (κ : Cap c) (g : Grammar) (v u : ℕ → c
     ContextsAtRest c κ g v u Has → (A : ℕ) → A < g .N → ¬ Has A → Unreached g A
 no-figure-unreached = AtRest.no-figure-unreached
 
--- THE CODE. Each promise settles its answer, and `find` the array that it is lent too.
+-- THE CODE. Each promise settles its answer, and `read` the array that it is lent too.
 pub judge-settles : (ws : List ℕ) {r s : LayoutAnswer} → r ≡ answerOf (layout ws) → s ≡ answerOf (layout ws) → r ≡ s
 judge-settles = CodeSettles.judge-settles
 
@@ -222,9 +222,14 @@ walk-step-settles = CodeSettles.walk-step-settles
 pub walk-next-settles : (w : RuleWalk) {r s : Taken} → r ≡ takenFrom w → s ≡ takenFrom w → r ≡ s
 walk-next-settles = CodeSettles.walk-next-settles
 
-pub find-settles : (ws before : List ℕ) {r s : List ℕ} →
-    r ≡ over (startsFrom 256 ws walkStart) before → s ≡ over (startsFrom 256 ws walkStart) before → r ≡ s
-find-settles = RulesByNumber.find-settles
+pub read-settles : (ws before : List ℕ) {r s : LayoutAnswer} {after after′ : List ℕ} →
+    r ≡ answerOf (layout ws) → after ≡ startsRead ws before r → s ≡ answerOf (layout ws) → after′ ≡ startsRead ws before s →
+    (r ≡ s) × (after ≡ after′)
+read-settles = CodeSettles.read-settles
+
+pub index-settles : (starts : List ℕ) (k : ℕ) {r s : ℕ} → (k < 256 → r ≡ getD starts k 0) × (256 ≤ k → r ≡ 0) →
+    (k < 256 → s ≡ getD starts k 0) × (256 ≤ k → s ≡ 0) → r ≡ s
+index-settles = CodeSettles.index-settles
 
 pub right-settles : (ws : List ℕ) (at : ℕ) {r s : List ℕ} → r ≡ rightAt ws at → s ≡ rightAt ws at → r ≡ s
 right-settles = RulesByNumber.right-settles
@@ -237,7 +242,7 @@ pub judge-grammar-exact : (ws : List ℕ) {r : LayoutAnswer} → r ≡ answerOf 
     (r ≡ answer.Grammar N T S n) ↔ WordsOf ws N T S n
 judge-grammar-exact ws e = JudgeExact.judge-grammar-exact ws e
 
--- Over a grammar's words the walk hands out its rules in order and then ends, place by place and by `next`; `find` notes the place
+-- Over a grammar's words the walk hands out its rules in order and then ends, place by place and by `next`; `read` notes the place
 -- of each, and `right` gives the right side of the rule there.
 pub walk-in-order : (ws : List ℕ) (g : Grammar) → layout ws ≡ reads g → HandsOut ws 0 walkStart (g .rules)
 walk-in-order ws g e = WalkInOrder.walk-in-order ws g e

@@ -10,7 +10,8 @@ use lib.Seq.{drop-cons, drop-drop, getD-drop}
 use borrow.Author.Tests.{lt-ltb, le-ltb, le-leb, lt-leb}
 use Rattle.grammar.specs.Words.{Rule, Judged, reads, faults, test, Body, body, no-symbol, with-symbol, with-left}
 use Rattle.grammar.specs.Words.{lefts, counts, symbols}
-use Rattle.grammar.specs.JudgeParts.{numberOf, numberAfter, more, rights, Symbols, Ruled}
+use Rattle.grammar.specs.Walk.{countAt}
+use Rattle.grammar.specs.JudgeParts.{numberOf, numberAfter, more, rights, Symbols, SymbolsEnd, Ruled, RuleEnds}
 use Rattle.grammar.specs.declared.layout.Part.{Part}
 use Rattle.grammar.specs.declared.layout.Part.the-variants.{Fit, Fault}
 
@@ -136,3 +137,8 @@ module _ (ws : List ℕ) (N T : ℕ) where
       ∙ number-with-left (getD ws at 0) (rights (drop (at + 2) ws) k (at + 2) room N T)
       ∙ ap (more 1) (s room)
   rule-judged at k l h q few (Fault p) s = λ room. rule-goes-on at k l h q few room ∙ ap (with-left (getD ws at 0)) (s room)
+
+-- and it ends where they do
+pub rule-ends : (ws : List ℕ) (at k : ℕ) → k ≡ countAt ws at → k ≤ 32 → (r : Part) → SymbolsEnd ws (at + 2) k r → RuleEnds ws at r
+rule-ends ws at k e few (Fit next) s = (omega (arith, s .0), s .1, omega (arith, s .0))
+rule-ends ws at k e few (Fault p) s = tt

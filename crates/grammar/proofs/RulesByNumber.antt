@@ -103,7 +103,7 @@ module _ (ws : List ℕ) (g : Grammar) (e : layout ws ≡ reads g) where
   pub starts-of-grammar : (k : ℕ) → k < R g → getD (startsFrom 256 ws walkStart) k 0 ≡ placeOf g k
   starts-of-grammar k h = all-places .each k (omega arith) ∙ ap (placeOf g) (zero-add k)
 
-  -- so they stand in a buffer after find, whatever it held before
+  -- so they stand in an array after read, whatever it held before
   pub found-starts : (before : List ℕ) (k : ℕ) → k < R g → getD (over (startsFrom 256 ws walkStart) before) k 0 ≡ placeOf g k
   unfolding over
   found-starts before k h =
@@ -120,9 +120,5 @@ module _ (ws : List ℕ) (g : Grammar) (e : layout ws ≡ reads g) where
       right-whole ws at within ∙ rw counted (places.symbols-stand ws g e k A w (r .stands))
 
 -- any two outcomes that a promise allows coincide
-pub find-settles : (ws before : List ℕ) {r s : List ℕ} →
-    r ≡ over (startsFrom 256 ws walkStart) before → s ≡ over (startsFrom 256 ws walkStart) before → r ≡ s
-find-settles ws before p q = p ∙ sym q
-
 pub right-settles : (ws : List ℕ) (at : ℕ) {r s : List ℕ} → r ≡ rightAt ws at → s ≡ rightAt ws at → r ≡ s
 right-settles ws at p q = p ∙ sym q

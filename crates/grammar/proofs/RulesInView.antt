@@ -32,3 +32,9 @@ module _ {ws starts : List ℕ} {n rules : ℕ} {g : Grammar} (view : View ws st
   -- an array of 128 has a place for each nonterminal
   pub viewed-room : {m : ℕ} → 128 ≤ m → g .N ≤ m
   viewed-room h = omega (arith, in-bounds ws (view .is) .nonterminals)
+
+-- the words are a grammar's, with this start besides
+pub record Begun (ws starts : List ℕ) (n start rules : ℕ) : Type 0 where
+  pub grammar : Grammar
+  pub view : View ws starts n rules grammar
+  pub first : start ≡ grammar .start

@@ -5,6 +5,9 @@ use mathlib.Core.Path.{_≡_}
 use mathlib.Core.List.{List}
 use Prim.Native.Nat.{ℕ, zero, suc, _+_, _≤_, _<_}
 use lib.ListN.{length, getD, drop}
+use Rattle.answers.specs.Buffers.{over}
+use Rattle.grammar.specs.Walk.{countAt, walkStart}
+use Rattle.grammar.specs.Rules.{startsFrom}
 use Rattle.grammar.specs.Words.{Rule, Judged, reads, faults, Body, body, no-symbol, with-head, lefts, symbols, layout}
 use Rattle.grammar.specs.declared.layout.Part.{Part}
 use Rattle.grammar.specs.declared.layout.Part.the-variants.{Fit, Fault}
@@ -40,6 +43,7 @@ pub record FirstUnfit (ws : List ℕ) (limit from end i : ℕ) : Type 0 where
 pub record Head (ws : List ℕ) (at : ℕ) : Type 0 where
   pub nonterminals : getD ws 0 0 ≤ 128
   pub terminals : getD ws 1 0 ≤ 1024
+  pub first : at ≡ 3
   pub judged :
       layout ws ≡ with-head (getD ws 0 0) (getD ws 1 0) (getD ws 2 0) (lefts (drop at ws) at 256 (getD ws 0 0) (getD ws 1 0))
 
@@ -53,13 +57,28 @@ Symbols ws N T first k (Fit q) =
     (room : ℕ) → numberAfter (rights (drop first ws) k first room N T) ≡ numberOf (lefts (drop q ws) q room N T)
 Symbols ws N T first k (Fault p) = (room : ℕ) → rights (drop first ws) k first room N T ≡ faults p
 
+-- there are so many, and the words go on to there
+abbrev pub SymbolsEnd : List ℕ → ℕ → ℕ → Part → Type 0
+SymbolsEnd ws first k (Fit q) = (q ≡ first + k) × (q ≤ length ws)
+SymbolsEnd ws first k (Fault p) = Unit {0}
+
 -- the rule at an index ends at q
 abbrev pub Ruled : List ℕ → ℕ → ℕ → ℕ → Part → Type 0
 Ruled ws N T at (Fit q) =
     (room : ℕ) → numberOf (lefts (drop at ws) at (suc room) N T) ≡ more 1 (numberOf (lefts (drop q ws) q room N T))
 Ruled ws N T at (Fault p) = (room : ℕ) → lefts (drop at ws) at (suc room) N T ≡ faults p
 
+-- it has as many symbols as its count says, which are few, and the words go on to there
+abbrev pub RuleEnds : List ℕ → ℕ → Part → Type 0
+RuleEnds ws at (Fit q) = (q ≡ at + 2 + countAt ws at) × (q ≤ length ws) × (q ≤ at + 34)
+RuleEnds ws at (Fault p) = Unit {0}
+
 -- the rules from an index on are n
 abbrev pub Tabled : List ℕ → ℕ → ℕ → ℕ → Part → Type 0
 Tabled ws N T at (Fit n) = numberOf (lefts (drop at ws) at 256 N T) ≡ reads n
 Tabled ws N T at (Fault p) = numberOf (lefts (drop at ws) at 256 N T) ≡ faults p
+
+-- where each stands is noted
+abbrev pub Noted : List ℕ → List ℕ → Part → List ℕ → Type 0
+Noted ws before (Fit n) after = after ≡ over (startsFrom 256 ws walkStart) before
+Noted ws before (Fault p) after = Unit {0}

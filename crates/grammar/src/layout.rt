@@ -1,11 +1,11 @@
 // The judge of grammar words: whether words are a grammar, and which, or where they break. One pass from the left, by the
-// order in which the words are read; nothing is written.
+// order in which the words are read, which also notes where each rule stands.
 ghost use mathlib.Core.Path.{_≡_};
 ghost use Prim.Native.Nat.{_≤_, _<_};
-ghost use lib.ListN.{length};
+ghost use lib.ListN.{length, replicate};
 ghost use Rattle.grammar.specs.Words.{layout};
-ghost use Rattle.grammar.specs.Judge.{answerOf};
-ghost use Rattle.grammar.specs.JudgeParts.{FirstUnfit, Head, Headed, Symbols, Ruled, Tabled};
+ghost use Rattle.grammar.specs.Judge.{answerOf, startsRead};
+ghost use Rattle.grammar.specs.JudgeParts.{FirstUnfit, Head, Headed, Symbols, SymbolsEnd, Ruled, RuleEnds, Tabled, Noted};
 use crate::walk::FIRST_RULE;
 use crate::walk::MOST_RULES;
 use crate::words::word;
@@ -38,10 +38,28 @@ enum Part {
 pub fn judge(words: &[u16]) -> LayoutAnswer
     ensures { λ r. ⌜ r ≡ answerOf (layout (now (words .entry))) ⌝ }
 {
+    let mut starts = [0u16; 256];
+    read(words, &mut starts)
+}
+
+// The same, and the index of each rule of a grammar into the front of starts. Where the words are no grammar starts is cleared.
+pub fn read(words: &[u16], starts: &mut [u16; 256]) -> LayoutAnswer
+    ensures { λ r. ⌜ r ≡ answerOf (layout (now (words .entry))) ⌝ }
+    ensures { λ r. ⌜ now (starts .exit) ≡ startsRead (now (words .entry)) (now (starts .entry)) r ⌝ }
+{
     match judge_head(words) {
-        Part::Fault(place) => LayoutAnswer::Fault { place },
-        Part::Fit(at) => judge_after_head(words, at),
+        Part::Fault(place) => fault(place, starts),
+        Part::Fit(at) => read_after_head(words, at, starts),
     }
+}
+
+// No grammar.
+fn fault(place: usize, starts: &mut [u16; 256]) -> LayoutAnswer
+    ensures { λ r. ⌜ r ≡ LayoutAnswer.Fault place ⌝ }
+    ensures { λ _. ⌜ now (starts .exit) ≡ replicate 256 0 ⌝ }
+{
+    *starts = [0u16; 256];
+    LayoutAnswer::Fault { place }
 }
 
 // N, T and the start. Fit carries the index past them.
@@ -72,15 +90,16 @@ fn judge_head(words: &[u16]) -> Part
 }
 
 // The rules of words whose head is fit.
-fn judge_after_head(words: &[u16], at: usize) -> LayoutAnswer
+fn read_after_head(words: &[u16], at: usize, starts: &mut [u16; 256]) -> LayoutAnswer
     requires { ⌜ Head (now words) at ⌝ }
     ensures { λ r. ⌜ r ≡ answerOf (layout (now (words .entry))) ⌝ }
+    ensures { λ r. ⌜ now (starts .exit) ≡ startsRead (now (words .entry)) (now (starts .entry)) r ⌝ }
 {
     let nonterminals = word(words, 0);
     let terminals = word(words, 1);
     let start = word(words, 2);
-    match judge_rules(words, nonterminals, terminals, at) {
-        Part::Fault(place) => LayoutAnswer::Fault { place },
+    match judge_rules(words, nonterminals, terminals, at, starts) {
+        Part::Fault(place) => fault(place, starts),
         Part::Fit(rules) => LayoutAnswer::Grammar {
             nonterminals,
             terminals,
@@ -90,10 +109,18 @@ fn judge_after_head(words: &[u16], at: usize) -> LayoutAnswer
     }
 }
 
-// The rules from index first to the end of the words. Fit carries their number.
-fn judge_rules(words: &[u16], nonterminals: usize, terminals: usize, first: usize) -> Part
+// The rules from index first to the end of the words, each noted. Fit carries their number.
+fn judge_rules(
+    words: &[u16],
+    nonterminals: usize,
+    terminals: usize,
+    first: usize,
+    starts: &mut [u16],
+) -> Part
     requires { ⌜ (nonterminals ≤ 128) × (terminals ≤ 1024) ⌝ }
+    requires { ⌜ (first ≡ 3) × (256 ≤ length (now starts)) ⌝ }
     ensures { λ r. ⌜ Tabled (now (words .entry)) nonterminals terminals first r ⌝ }
+    ensures { λ r. ⌜ Noted (now (words .entry)) (now (starts .entry)) r (now (starts .exit)) ⌝ }
 {
     let mut at = first;
     let mut rules = 0;
@@ -101,6 +128,7 @@ fn judge_rules(words: &[u16], nonterminals: usize, terminals: usize, first: usiz
         if rules == MOST_RULES {
             return Part::Fault(at);
         }
+        starts[rules] = at as u16;
         match judge_rule(words, nonterminals, terminals, at) {
             Part::Fault(place) => {
                 return Part::Fault(place);
@@ -119,6 +147,7 @@ fn judge_rule(words: &[u16], nonterminals: usize, terminals: usize, at: usize) -
     requires { ⌜ (nonterminals ≤ 128) × (terminals ≤ 1024) ⌝ }
     requires { ⌜ at < length (now words) ⌝ }
     ensures { λ r. ⌜ Ruled (now (words .entry)) nonterminals terminals at r ⌝ }
+    ensures { λ r. ⌜ RuleEnds (now (words .entry)) at r ⌝ }
 {
     if nonterminals <= word(words, at) {
         return Part::Fault(at);
@@ -146,6 +175,7 @@ fn judge_symbols(
     requires { ⌜ (nonterminals ≤ 128) × (terminals ≤ 1024) ⌝ }
     requires { ⌜ first ≤ length (now words) ⌝ }
     ensures { λ r. ⌜ Symbols (now (words .entry)) nonterminals terminals first count r ⌝ }
+    ensures { λ r. ⌜ SymbolsEnd (now (words .entry)) first count r ⌝ }
 {
     let limit = nonterminals + terminals;
     let len = words.len();

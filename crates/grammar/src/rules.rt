@@ -1,36 +1,25 @@
-// The rules of grammar words by number: where each stands, found once by a walk, and its right side.
+// The rules of grammar words by number: where each stands, as `layout::read` notes it, and its right side.
 ghost use mathlib.Core.Path.{_≡_};
-ghost use Prim.Native.Nat.{_≤_};
-ghost use lib.ListN.{length};
-ghost use Rattle.answers.specs.Buffers.{over};
-ghost use Rattle.grammar.specs.Walk.{walkStart};
-ghost use Rattle.grammar.specs.Rules.{startsFrom, rightAt};
-use crate::walk::FIRST_RULE;
-use crate::walk::Step;
-use crate::walk::rule_from;
+ghost use Prim.Native.Nat.{_≤_, _<_};
+ghost use lib.ListN.{length, getD};
+ghost use Rattle.grammar.specs.Rules.{rightAt};
+use crate::walk::MOST_RULES;
 use crate::words::word;
 
-// The index of each rule that a walk hands out, in order, into the front of starts.
-pub fn find(words: &[u16], starts: &mut [usize; 256])
-    ensures { λ _. ⌜ now (starts .exit) ≡ over (startsFrom 256 (now (words .entry)) walkStart) (now (starts .entry)) ⌝ }
+fn wide(index: u16) -> usize
+    ensures { λ r. ⌜ r ≡ index ⌝ }
 {
-    write_starts(words, starts);
+    index as usize
 }
 
-// The same into a slice that has room for the most rules: of a slice the proof knows the length.
-fn write_starts(words: &[u16], starts: &mut [usize])
-    requires { ⌜ 256 ≤ length (now starts) ⌝ }
-    ensures { λ _. ⌜ now (starts .exit) ≡ over (startsFrom 256 (now (words .entry)) walkStart) (now (starts .entry)) ⌝ }
+// The index of the rule of a number, where the starts were found; 0 past the most rules.
+pub fn index(starts: &[u16; 256], number: usize) -> usize
+    ensures { λ r. ⌜ (number < 256 → r ≡ getD (now (starts .entry)) number 0) × (256 ≤ number → r ≡ 0) ⌝ }
 {
-    let mut at = FIRST_RULE;
-    let mut number = 0;
-    loop {
-        let Step::Rule(span) = rule_from(words, at, number) else {
-            return;
-        };
-        starts[number] = at;
-        at = span.end;
-        number += 1;
+    if number < MOST_RULES {
+        wide(starts[number])
+    } else {
+        0
     }
 }
 

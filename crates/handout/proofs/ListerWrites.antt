@@ -1,6 +1,6 @@
--- What the lister's contracts come to for a caller who has a tree in hand: of a nonterminal it has written the sentence and the
--- derivation of each chosen tree, and of a rule those of its symbols' chosen trees after its number; all such trees are listed
--- alike. Where both parts have room and nothing was listed before, they stand at the parts' fronts. Assumes nothing.
+-- What the lister's contracts come to for a caller who has a tree in hand: of a rule it has written its number and the sentences and
+-- derivations of its symbols' chosen trees; all such trees are listed alike. Where both parts have room and nothing was listed before, they
+-- stand at the parts' fronts. Assumes nothing.
 use Prim.Native.Nat.{ℕ, _≤_}
 use native.Mathlib.Nat.{zero-add}
 use native.Mathlib.Omega.{arith}
@@ -10,26 +10,16 @@ use lib.ListN.{length}
 use lib.Seq.{sets, sets-eq}
 use Rattle.answers.specs.Buffers.{over}
 use Rattle.grammar.specs.Words.{Grammar, RuleAt}
-use Rattle.grammar.specs.Tree.{Tree, Forest, sentence, sentences, derivation, derivations}
+use Rattle.grammar.specs.Tree.{Forest, sentences, derivations}
 use Rattle.grammar.specs.Measure.{plain}
-use Rattle.grammar.specs.Least.{ChosenTree, ChosenForest}
-use Rattle.grammar.proofs.SameListing.{same-tree, same-forest, tree-nonterminal}
+use Rattle.grammar.specs.Least.{ChosenForest}
+use Rattle.grammar.proofs.SameListing.{same-forest}
 use Rattle.grammar.proofs.RulesInView.{viewed-right}
 use Rattle.handout.specs.declared.lister.Lengths.{Lengths}
-use Rattle.handout.specs.Listing.{Known, SymbolListed, of-terminal, of-nonterminal, Wrote, SymbolWritten, RuleWritten}
+use Rattle.handout.specs.Listing.{Known, Wrote, RuleWritten}
 
 module _ {words starts table : List ℕ} {n : ℕ} {g : Grammar} (known : Known words starts table n g) where
   module _ {a b x y : List ℕ} {p q : Lengths} where
-    -- LISTER: every chosen tree of the symbol
-    pub tree-written : {s : ℕ} → SymbolWritten words starts table n s a b x y p q → (t : Tree g s) → ChosenTree plain g t →
-        Wrote (sentence t) (derivation t) a b x y p q
-    tree-written {s} h t chosen = let l = h .listed g known in go (l .lists) (l .wrote)
-      where
-        go : {us vs : List ℕ} → SymbolListed g s us vs → Wrote us vs a b x y p q → Wrote (sentence t) (derivation t) a b x y p q
-        go (of-terminal le) wrote = absurd (omega (arith, tree-nonterminal t))
-        go (of-nonterminal u d) wrote =
-            let same = same-tree plain u refl t d chosen in rw (← same .sentences-same, ← same .derivations-same) wrote
-
     -- LISTER: the rule's number, and every chosen forest of its symbols
     pub rule-written : {k A : ℕ} {w : List ℕ} → RuleWritten words starts table n k a b x y p q → RuleAt g k A w →
         (f : Forest g w) → ChosenForest plain g f → Wrote (sentences f) (k ∷ derivations f) a b x y p q

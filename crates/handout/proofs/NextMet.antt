@@ -4,40 +4,25 @@
 use Prim.Native.Nat.{ℕ, _≤_, _<_}
 use native.Mathlib.Omega.{arith}
 use native.Mathlib.Decide.{decLt}
-use mathlib.Core.Path.{_≡_, refl}
+use mathlib.Core.Path.{_≡_}
 use mathlib.Core.Logic.{_⊎_, inl, inr}
 use mathlib.Core.List.{List}
 use lib.ListN.{length}
-use Rattle.grammar.specs.Words.{Grammar, R, layout, reads, words, InBounds}
+use Rattle.grammar.specs.Words.{Grammar, R, layout, reads}
 use Rattle.grammar.specs.Tree.{Tree, sentence, derivation}
 use Rattle.grammar.specs.Measure.{plain}
 use Rattle.grammar.specs.Refusals.{Lowest, Accepted}
-use Rattle.grammar.proofs.LayoutExact.{layout-exact, in-bounds}
+use Rattle.grammar.proofs.LayoutExact.{in-bounds}
 use Rattle.grammar.proofs.TreeOfExists.{tree-of-exists}
 use Rattle.tables.specs.Table.{HasTable}
-use Rattle.tables.specs.Promise.{Tested, broken, its, not-its}
-use Rattle.tables.specs.declared.TableTest.{TableTest}
 use Rattle.answers.proofs.Gates.{stop, go}
 use Rattle.tables.proofs.FirstRows.{OfWords, fault, grammar, FromFive}
-use Rattle.grammar.proofs.LayoutExact.{reads-unique}
 use Rattle.tables.proofs.FirstRowsMet.{words-met, five-met}
-use Rattle.tables.proofs.TestSettles.{test-met}
+use Rattle.tables.proofs.TestSettles.{tabled?}
 use Rattle.handout.specs.Next.{NextPromise, Unused, AllUsed, Wanted, Lent}
 use Rattle.handout.specs.Next.{row-4, row-5, row-6, row-7, row-8, row-9, finished, row-3, row-10, next}
 use Rattle.handout.specs.declared.NextAnswer.{NextAnswer}
 use Rattle.handout.proofs.MarksSettled.{marks-exist, unused?}
-
--- what `test` answers of an accepted grammar's words says whether the table is its own
-tabled? : (table : List ℕ) (g : Grammar) → InBounds g → Accepted g → Dec (HasTable g table)
-tabled? table g ok a = decide (test-met (words g) table .1)
-  where
-    read : layout (words g) ≡ reads g
-    read = layout-exact (words g) g .1 (ok, refl)
-
-    decide : {o : TableTest} → Tested (words g) table o → Dec (HasTable g table)
-    decide (broken e) = absurd (let z : _≡_ {A = ℕ} 0 1 = cc (e, read) in omega arith)
-    decide (its e b h) = yes (rw (reads-unique (words g) e read) at h)
-    decide (not-its e n) = no (λ h. (rw (reads-unique (words g) e read) at n) (a, h))
 
 -- the target of an accepted grammar has its tree
 pub wanted-exists : {ws table marks : List ℕ} {g : Grammar} {r : ℕ} → layout ws ≡ reads g → Accepted g → HasTable g table →

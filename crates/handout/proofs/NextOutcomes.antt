@@ -1,201 +1,168 @@
--- The outcomes of `next`, each a row of document 01: what the functions on the way promise each other, put together. Where the
--- table is not the grammar's, working the grammar's table out tells 5, 6 and 7 from 8. Assumes nothing.
+-- The outcomes of `next`, each a row of document 01: what the functions on the way promise each other, put together.
+-- Assumes nothing.
 use Prim.Native.Nat.{ℕ, _+_, _*_, _≤_, _<_}
 use native.Mathlib.Omega.{arith}
-use mathlib.Core.Path.{_≡_, refl, sym, ap, _∙_, subst}
+use mathlib.Core.Path.{_≡_, refl, ap, _∙_}
 use mathlib.Core.List.{List}
 use lib.ListN.{length, getD, take}
 use Rattle.answers.specs.Buffers.{over}
-use Rattle.grammar.specs.Words.{Grammar, R, layout, reads, faults}
-use Rattle.grammar.specs.Refusals.{Accepted}
+use Rattle.grammar.specs.Words.{R, layout}
+use Rattle.grammar.specs.Words as W
+use Rattle.grammar.specs.Judge.{answerOf, startsRead}
 use Rattle.grammar.specs.Tree.{Tree, sentence, derivation}
 use Rattle.grammar.specs.Measure.{plain}
 use Rattle.grammar.specs.Least.{TreeOf}
-use Rattle.grammar.specs.Walk.{WalkPlace, walkStart, stepAt, pastRule}
-use Rattle.grammar.specs.Rules.{startsFrom}
-use Rattle.grammar.specs.declared.walk.RuleSpan.{RuleSpan}
-use Rattle.grammar.specs.declared.walk.Step.the-variants as step
 use Rattle.grammar.proofs.LayoutExact.{layout-exact, in-bounds}
-use Rattle.grammar.proofs.RulesByNumber.{found-starts}
+use Rattle.grammar.proofs.WordsRead.{starts-of}
 use Rattle.grammar.proofs.TreeOfExists.{tree-of-exists}
 use Rattle.grammar.proofs.Totals.{tree-of-total}
 use Rattle.grammar.proofs.SizeIsLength.{size-is-length}
 use Rattle.grammar.proofs.Unique.{total-unique}
 use Rattle.tables.proofs.TablePlaces.{total-front}
-use Rattle.grammar.proofs.ConstructorsDiffer.{reads-not-faults}
 use Rattle.grammar.proofs.RuleNumbers.{rule-number}
-use Rattle.grammar.proofs.WalkInOrder.{walkBefore, walk-found, walk-done}
-use Rattle.tables.specs.Table.{HasTable, tableLength}
 use Rattle.tables.specs.Promise as tables
-use Rattle.tables.specs.declared.TableAnswer.{TableAnswer}
-use Rattle.tables.specs.declared.TableAnswer.the-variants as answer
 use Rattle.tables.specs.declared.TableTest.{TableTest}
 use Rattle.tables.specs.declared.TableTest.the-variants as test
-use Rattle.tables.specs.declared.TableTest.the-variants.{Its, NotIts}
 use Rattle.handout.specs.Next.{Lent, Marked, Wanted, NextPromise}
 use Rattle.handout.specs.Next.{row-4, row-5, row-6, row-7, row-8, row-9, finished, row-3, row-10, next}
-use Rattle.handout.specs.Asked.{Asked, Prepared}
+use Rattle.handout.specs.Asked.{Tabled, Asked, Prepared}
 use Rattle.handout.specs.Listing.{Known, Wrote}
-use Rattle.handout.specs.TreeListing.{TreeReady, TreeCounted, TreeFits, TreeWritten, none-so-far}
+use Rattle.handout.specs.TreeListing.{TreeReady, TreeRoom, TreeCounted, TreeFits, TreeWritten, none-so-far}
 use Rattle.handout.specs.MarkSteps.{FirstUnused}
 use Rattle.handout.specs.declared.marks.Found.{Found}
 use Rattle.handout.specs.declared.marks.Found.the-variants.{At, Nothing}
 use Rattle.handout.specs.declared.lister.Lengths.{Lengths}
 use Rattle.handout.specs.declared.NextAnswer.the-variants.{Refused, Finished, Next}
 use Rattle.handout.proofs.MarkLaws.{lowest-found, none-found, marked-written}
+use Rattle.handout.proofs.ListerSteps.{room-kept}
 use Rattle.handout.proofs.ListerWrites.{at-front}
 
--- words are a grammar in one way
-same : (words : List ℕ) {g h : Grammar} → layout words ≡ reads g → layout words ≡ reads h → h ≡ g
-same words a b = cc
-
--- 8: the grammar is accepted, so the table is not its own
-not-own : {words table : List ℕ} {g : Grammar} → layout words ≡ reads g → Accepted g → tables.Tested words table NotIts →
-    ¬ HasTable g table
-not-own {words} {table} {g} e a (tables.not-its {g = h} e′ none) t =
-    none (subst (λ (x : Grammar). Accepted x × HasTable x table) (same words e′ e) (a, t))
-
--- where a test says that the words break
-abbrev brokenAt : TableTest → ℕ
-brokenAt (test.Broken p) = p
-brokenAt test.Its = 0
-brokenAt test.NotIts = 0
-
--- a refusal's number and place
-abbrev numberOf : TableAnswer → ℕ
-numberOf (answer.Done k) = 0
-numberOf (answer.Refused k p) = k
-
-abbrev placeOf : TableAnswer → ℕ
-placeOf (answer.Done k) = 0
-placeOf (answer.Refused k p) = p
-
-module _ {words table : List ℕ} (room : List ℕ) (before : Lent) (long : 896 ≤ length room)
-    (missing : tables.Tested words table NotIts) where
-  enough : {g : Grammar} → layout words ≡ reads g → tableLength g ≤ length room
-  enough e = let ok = in-bounds words e in omega (arith, ok .nonterminals, ok .at-most-256)
-
-  -- what working the table out refuses is refused, but for room, which there is
-  pub refuses-without : {r : TableAnswer} {after : List ℕ} {number place : ℕ} → tables.Tables words room r after →
-      r ≡ answer.Refused number place → NextPromise words table before (Refused number place) before
-  refuses-without (tables.row-4 f) q = absurd (broken missing f)
+-- what the test refuses is refused
+module _ {words table : List ℕ} (before : Lent) where
+  pub refuses-tested : {r : TableTest} {k p : ℕ} → tables.Tested words table r → r ≡ test.Refused k p →
+      NextPromise words table before (Refused k p) before
+  refuses-tested t e = go (rw e at t)
     where
-      broken : {p : ℕ} → tables.Tested words table NotIts → layout words ≡ faults p → ⊥
-      broken (tables.not-its e none) f = reads-not-faults (sym e ∙ f)
-  refuses-without (tables.row-5 e low) q = rw (← ap numberOf q, ← ap placeOf q) (row-5 e low)
-  refuses-without (tables.row-6 e t low) q = rw (← ap numberOf q, ← ap placeOf q) (row-6 e t low)
-  refuses-without (tables.row-7 e t u low) q = rw (← ap numberOf q, ← ap placeOf q) (row-7 e t u low)
-  refuses-without (tables.row-3 e t u f l) q = absurd (omega (arith, enough e))
-  refuses-without (tables.done e t u f l s) q = absurd (let z : _≡_ {A = ℕ} 0 1 = cc in omega arith)
+      go : {k p : ℕ} → tables.Tested words table (test.Refused k p) → NextPromise words table before (Refused k p) before
+      go (tables.test-4 e) = row-4 e
+      go (tables.test-5 e low) = row-5 e low
+      go (tables.test-6 e t low) = row-6 e t low
+      go (tables.test-7 e t u low) = row-7 e t u low
 
-  -- and where it is worked out, the lent one is not it
-  pub refuses-8 : {r : TableAnswer} {after : List ℕ} {k : ℕ} → tables.Tables words room r after → r ≡ answer.Done k →
+  pub refuses-8 : {r : TableTest} → tables.Tested words table r → r ≡ test.NotIts →
       NextPromise words table before (Refused 8 0) before
-  refuses-8 (tables.row-4 f) q = absurd (let z : _≡_ {A = ℕ} 0 1 = cc in omega arith)
-  refuses-8 (tables.row-5 e low) q = absurd (let z : _≡_ {A = ℕ} 0 1 = cc in omega arith)
-  refuses-8 (tables.row-6 e t low) q = absurd (let z : _≡_ {A = ℕ} 0 1 = cc in omega arith)
-  refuses-8 (tables.row-7 e t u low) q = absurd (let z : _≡_ {A = ℕ} 0 1 = cc in omega arith)
-  refuses-8 (tables.row-3 e t u f l) q = absurd (let z : _≡_ {A = ℕ} 0 1 = cc in omega arith)
-  refuses-8 (tables.done {g = g} e t u f l s) q =
-      let a : Accepted g = record { trees = t; reached = u; fit = f } in
-      row-8 e a (not-own e a missing)
+  refuses-8 t e = go (rw e at t)
+    where
+      go : tables.Tested words table test.NotIts → NextPromise words table before (Refused 8 0) before
+      go (tables.not-its e a n) = row-8 e a n
 
--- THE RULES COUNTED: a walk stands before the rule of its number, and where it ends that is R
-abbrev pub Before : List ℕ → WalkPlace → Type 0
-Before words v = (g : Grammar) → layout words ≡ reads g → (v ≡ walkBefore g (v .number)) × (v .number ≤ R g)
-
-pub before-first : (words : List ℕ) → Before words walkStart
-before-first words g e = (refl, omega arith)
-
-pub before-next : (words : List ℕ) (v : WalkPlace) {s : RuleSpan} → stepAt words v ≡ step.Rule s → Before words v →
-    Before words (pastRule s)
-before-next words v {s} q h g e =
-    let (is, low) = h g e in
-    let found = walk-found words g e (v .number) low (ap (stepAt words) (sym is) ∙ q) in
-    let next = found .next in
-    let count : s .number + 1 ≡ v .number + 1 = ap (λ (x : WalkPlace). x .number) next in
-    (next ∙ ap (walkBefore g) (sym count), omega (arith, rule-number (found .rule)))
-
-pub before-end : (words : List ℕ) (v : WalkPlace) → stepAt words v ≡ step.End → Before words v → (g : Grammar) → layout words ≡ reads g →
-    v .number ≡ R g
-before-end words v q h g e = let (is, low) = h g e in walk-done words g e (v .number) low (ap (stepAt words) (sym is) ∙ q)
-
--- 4
-pub refuses-4 : {words table : List ℕ} (before : Lent) {r : TableTest} {p : ℕ} → tables.Tested words table r → r ≡ test.Broken p →
-    NextPromise words table before (Refused 4 p) before
-refuses-4 before (tables.broken e) q = let z = ap brokenAt q in rw (← z) (row-4 e)
-refuses-4 before (tables.its e a t) q = absurd (let z : _≡_ {A = ℕ} 0 1 = cc in omega arith)
-refuses-4 before (tables.not-its e n) q = absurd (let z : _≡_ {A = ℕ} 0 1 = cc in omega arith)
+-- and else the table is the grammar's, whose rules stand where the test noted them
+pub own-table : {words table starts : List ℕ} (noted : List ℕ) {r : TableTest} {rules : ℕ} → tables.Tested words table r →
+    r ≡ test.Its rules → starts ≡ startsRead words noted (answerOf (layout words)) → Tabled words starts table rules
+own-table {words} {table} {starts} noted t e s = go (rw e at t)
+  where
+    go : {rules : ℕ} → tables.Tested words table (test.Its rules) → Tabled words starts table rules
+    go (tables.its {g = g} e a h) = record {
+      g = g;
+      accepted = a;
+      known = record { view = starts-of words noted e s; tabled = h };
+      all-rules = refl;
+    }
 
 -- with the table: 9, Finished, or a target
-module _ {words table : List ℕ} {rules : ℕ} (counted : (g : Grammar) → layout words ≡ reads g → rules ≡ R g) where
-  pub refuses-9 : (before : Lent) → tables.Tested words table Its → length (before .marks) < rules →
-      NextPromise words table before (Refused 9 rules) before
-  refuses-9 before (tables.its {g = g} e a t) l = let n = counted g e in rw n (row-9 e a t (omega arith))
+module _ {words starts table : List ℕ} {rules : ℕ} (t : Tabled words starts table rules) where
+  pub refuses-9 : (before : Lent) → length (before .marks) < rules → NextPromise words table before (Refused 9 rules) before
+  refuses-9 before l =
+      let n = t .all-rules in
+      rw n (row-9 (t .known .view .is) (t .accepted) (t .known .tabled) (omega arith))
 
   module _ {found : Found} where
-    pub finishes : (before : Lent) → tables.Tested words table Its → FirstUnused (before .marks) rules found → found ≡ Nothing →
-        rules ≤ length (before .marks) → NextPromise words table before Finished before
-    finishes before (tables.its {g = g} e a t) f q l =
-        let n = counted g e in finished e a t (omega arith) (none-found g f n q)
+    pub finishes : (before : Lent) → FirstUnused (before .marks) rules found → found ≡ Nothing → rules ≤ length (before .marks) →
+        NextPromise words table before Finished before
+    finishes before f q l =
+        let n = t .all-rules in
+        finished (t .known .view .is) (t .accepted) (t .known .tabled) (omega arith) (none-found (t .g) f n q)
 
-    pub asks : {marks : List ℕ} {r : ℕ} → tables.Tested words table Its → FirstUnused marks rules found → found ≡ At r →
-        rules ≤ length marks → Asked words table marks r
-    asks {marks} {r} (tables.its {g = g} e a t) f q l =
-        let n = counted g e in
-        record { g = g; grammar = e; accepted = a; tabled = t; marked = omega arith; target = lowest-found g f n r q }
+    pub asks : {marks : List ℕ} {r : ℕ} → FirstUnused marks rules found → found ≡ At r → rules ≤ length marks →
+        Asked words starts table marks r
+    asks {r = r} f q l =
+        let n = t .all-rules in
+        record {
+          g = t .g;
+          accepted = t .accepted;
+          known = t .known;
+          marked = omega arith;
+          target = lowest-found (t .g) f n r q;
+        }
 
 -- the target's tree
-module _ {words table marks : List ℕ} {r : ℕ} (a : Asked words table marks r) where
+module _ {words starts table marks : List ℕ} {r : ℕ} (a : Asked words starts table marks r) where
   tree-of : (t : Tree (a .g) (a .g .start)) × TreeOf plain (a .g) r t
   tree-of =
-      tree-of-exists plain (a .g) (in-bounds words (a .grammar)) (a .accepted .trees) (a .accepted .reached) r (a .target .such .rule)
+      let ok = in-bounds words (a .known .view .is) in
+      tree-of-exists plain (a .g) ok (a .accepted .trees) (a .accepted .reached) r (a .target .such .rule)
 
   wanted : Wanted words table marks (a .g) r (tree-of .0)
   wanted = record {
-    grammar = a .grammar;
+    grammar = a .known .view .is;
     accepted = a .accepted;
-    tabled = a .tabled;
+    tabled = a .known .tabled;
     marked = a .marked;
     target = a .target;
     tree = tree-of .1;
   }
 
+  words-are : words ≡ W.words (a .g)
+  words-are = layout-exact words (a .g) .0 (a .known .view .is) .1
+
+  -- n and the start were read from the words
+  pub prepared : {n start : ℕ} → n ≡ getD words 0 0 → start ≡ getD words 2 0 → Prepared words table marks starts n start r
+  prepared w s = record {
+    asked = a;
+    nonterminals = w ∙ ap (λ (x : List ℕ). getD x 0 0) words-are;
+    starts-at = s ∙ ap (λ (x : List ℕ). getD x 2 0) words-are;
+  }
+
   -- its total stands where the code reads it
   pub total-index : {n : ℕ} → n ≡ getD words 0 0 → 5 * n + r < 1000
   total-index w =
-      let ok = in-bounds words (a .grammar) in
-      let words-are = ap (λ (x : List ℕ). getD x 0 0) (layout-exact words (a .g) .0 (a .grammar) .1) in
-      omega (arith, a .target .such .rule, ok .at-most-256, ok .nonterminals, words-are)
+      let ok = in-bounds words (a .known .view .is) in
+      let at-first = ap (λ (x : List ℕ). getD x 0 0) words-are in
+      omega (arith, a .target .such .rule, ok .at-most-256, ok .nonterminals, at-first)
 
-module _ {words table marks starts : List ℕ} {n start r : ℕ} where
-  -- n, the start and the starts were read from the words
-  pub prepared : (before : List ℕ) → Asked words table marks r → n ≡ getD words 0 0 → start ≡ getD words 2 0 →
-      starts ≡ over (startsFrom 256 words walkStart) before → Prepared words table marks starts n start r
-  prepared before a w s e =
-      let words-are = layout-exact words (a .g) .0 (a .grammar) .1 in
-      record {
-        asked = a;
-        known = record {
-          view = record {
-            is = a .grammar;
-            begin = λ k l. ap (λ (x : List ℕ). getD x k 0) e ∙ found-starts words (a .g) (a .grammar) before k l;
-            nonterminals = w ∙ ap (λ (x : List ℕ). getD x 0 0) words-are;
-            all-rules = refl;
-          };
-          tabled = a .tabled;
-        };
-        starts-at = s ∙ ap (λ (x : List ℕ). getD x 2 0) words-are;
-      }
+module _ {words table marks starts : List ℕ} {n start r : ℕ} (p : Prepared words table marks starts n start r) where
+  known-so : Known words starts table n (p .asked .g)
+  known-so = rw (p .nonterminals) (p .asked .known)
 
-  pub ready : Prepared words table marks starts n start r → TreeReady words starts table n start r
-  ready p = record {
+  pub ready : TreeReady words starts table n start r
+  ready = record {
     g = p .asked .g;
-    known = p .known;
+    known = known-so;
     starts-at = p .starts-at;
     accepted = p .asked .accepted;
     number = p .asked .target .such .rule;
   }
+
+  -- it is at most 4,096
+  pub total-within : {total : ℕ} → total ≡ getD table (5 * n + r) 0 → total ≤ 4096
+  total-within e =
+      let g = p .asked .g in
+      let below = p .asked .target .such .rule in
+      let fits = p .asked .accepted .fit r below in
+      let is = total-unique (fits .is) (p .asked .known .tabled .totals r below) in
+      let stands = total-front g table r below in
+      let same = ap (λ (k : ℕ). getD table (5 * k + r) 0) (p .nonterminals) in
+      omega (arith, fits .within)
+
+  -- an array as long as that has room for the path
+  pub room-by-total : {total : ℕ} {path ats lefts : List ℕ} → total ≡ getD table (5 * n + r) 0 → total ≤ length path →
+      length ats ≤ length lefts → TreeRoom table n r path ats lefts
+  room-by-total e l m = record { room = record { few = omega (arith, total-within e); same = m }; short = omega arith }
+
+-- and it has it again, whatever is written to it
+pub room-stays : {table path ats lefts path′ ats′ lefts′ : List ℕ} {n r : ℕ} → TreeRoom table n r path ats lefts →
+    length path′ ≡ length path → length ats′ ≡ length ats → length lefts′ ≡ length lefts → TreeRoom table n r path′ ats′ lefts′
+room-stays room e f h = record { room = room-kept (room .room) f h; short = omega (arith, room .short) }
 
 -- there is room for the tree where there is as much as the table's total says, or as was counted
 module _ {words table starts : List ℕ} {n start r : ℕ} where
@@ -216,6 +183,15 @@ module _ {words table starts : List ℕ} {n start r : ℕ} where
       let e = counts g known s t tree .1 in
       (omega arith, omega arith)
 
+-- and where there is, there is for the numbers that are marked
+pub numbers-within : {words table marks starts : List ℕ} {n start r : ℕ} {so : Lengths} →
+    Prepared words table marks starts n start r → TreeCounted words starts table n start r so → (tokens rules : List ℕ) →
+    TreeFits words starts table n start r tokens rules → so .rules ≤ length rules
+numbers-within p counts tokens rules fits =
+    let tree = tree-of (p .asked) in
+    let e = counts (p .asked .g) (known-so p) (p .starts-at) (tree .0) (tree .1) .1 in
+    omega (arith, fits (p .asked .g) (known-so p) (p .starts-at) (tree .0) (tree .1) .1)
+
 -- 3, 10, or the sentence
 module _ {words table starts : List ℕ} {n start r : ℕ} (before : Lent)
     (p : Prepared words table (before .marks) starts n start r) where
@@ -224,7 +200,7 @@ module _ {words table starts : List ℕ} {n start r : ℕ} (before : Lent)
 
   module _ {so : Lengths} (counts : TreeCounted words starts table n start r so) where
     counted : (so .tokens ≡ length (sentence tree)) × (so .rules ≡ length (derivation tree))
-    counted = counts (p .asked .g) (p .known) (p .starts-at) tree (tree-of (p .asked) .1)
+    counted = counts (p .asked .g) (known-so p) (p .starts-at) tree (tree-of (p .asked) .1)
 
     pub refuses-3 : length (before .tokens) < so .tokens → NextPromise words table before (Refused 3 (so .tokens)) before
     refuses-3 l = let e = counted .0 in rw e (row-3 (wanted (p .asked)) (omega arith))
@@ -238,16 +214,14 @@ module _ {words table starts : List ℕ} {n start r : ℕ} (before : Lent)
   module _ {tokens rules : List ℕ} {so : Lengths} (fits : TreeFits words starts table n start r (before .tokens) (before .rules))
       (writes : TreeWritten words starts table n start r (before .tokens) tokens (before .rules) rules so) where
     wrote : Wrote (sentence tree) (derivation tree) (before .tokens) tokens (before .rules) rules none-so-far so
-    wrote = writes (p .asked .g) (p .known) (p .starts-at) tree (tree-of (p .asked) .1)
+    wrote = writes (p .asked .g) (known-so p) (p .starts-at) tree (tree-of (p .asked) .1)
 
     room : (length (sentence tree) ≤ length (before .tokens)) × (length (derivation tree) ≤ length (before .rules))
-    room = fits (p .asked .g) (p .known) (p .starts-at) tree (tree-of (p .asked) .1)
-
-    pub numbers-within : so .rules ≤ length (before .rules)
-    numbers-within = let e = wrote .more-rules in omega (arith, room .1)
+    room = fits (p .asked .g) (known-so p) (p .starts-at) tree (tree-of (p .asked) .1)
 
     pub hands-out : {marks : List ℕ} → Marked (take (so .rules) rules) (before .marks) marks →
-        NextPromise words table before (Next r (so .tokens) (so .rules)) (record { marks = marks; tokens = tokens; rules = rules })
+        NextPromise words table before (Next r (so .tokens) (so .rules))
+        (record { marks = marks; tokens = tokens; rules = rules })
     hands-out {marks} marked =
         let ks = derivation tree in
         let m = wrote .more-tokens in

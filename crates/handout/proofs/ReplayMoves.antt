@@ -1,4 +1,4 @@
--- What each move of `replay` does to what is left of the form: a terminal in front only comes in front of the sentence; a
+-- What each move of `replay` does to what is left of the form: terminals in front only come in front of the sentence; a
 -- nonterminal in front is opened by the next number, or the list stops there; and an empty form is complete.
 -- Assumes nothing.
 use mathlib.Core.Path.{_≡_, refl, sym, ap, _∙_}
@@ -8,13 +8,14 @@ use mathlib.Core.Option.{Option, some, none}
 use Prim.Native.Nat.{ℕ, zero, suc, _+_, _≤_, _<_}
 use native.Mathlib.Nat.{not-suc-le-zero, le-of-suc-le-suc}
 use native.Mathlib.Numerals.{add-one}
+use native.Mathlib.Omega.{arith}
 use lib.Dec.{eqb}
 use lib.ListN.{length, getElem?, getD, drop, drop-of-length-le}
 use lib.Seq.{drop-cons}
 use borrow.Author.Tests.{eqb-true, eq-eqb, lt-ltb, le-ltb}
 use Rattle.grammar.specs.Words.{Grammar, Rule, RuleAt, R}
 use Rattle.grammar.proofs.Replay.{Replayed, derived, stopped, replayed, stepped, complete?, before, where-true, ending}
-use Rattle.handout.specs.ReplaySteps.{front}
+use Rattle.handout.specs.ReplaySteps.{front, allFront}
 
 -- no rule has a number from R on
 past-rules : (rs : List Rule) (k : ℕ) → length rs ≤ k → getElem? rs k ≡ none
@@ -29,6 +30,19 @@ not-opened s A w h = go (eqb s A) refl
     go : (b : Bool) → eqb s A ≡ b → where-true b w ≡ none
     go true e = absurd (h (sym (eqb-true s A e)))
     go false e = refl
+
+-- tokens in front
+pub all-front-append : (ts us : List ℕ) (z : Replayed) → allFront (ts ++ us) z ≡ allFront ts (allFront us z)
+all-front-append [] us z = refl
+all-front-append (t ∷ ts) us z = ap (front t) (all-front-append ts us z)
+
+pub all-front-derived : (ts : List ℕ) → allFront ts (derived []) ≡ derived ts
+all-front-derived [] = refl
+all-front-derived (t ∷ ts) = ap (front t) (all-front-derived ts)
+
+pub all-front-stopped : (ts : List ℕ) (p : ℕ) → allFront ts (stopped p) ≡ stopped p
+all-front-stopped [] p = refl
+all-front-stopped (t ∷ ts) p = ap (front t) (all-front-stopped ts p)
 
 module _ (g : Grammar) where
   stepped-terminal : (k s : ℕ) (σ : List ℕ) → g .N ≤ s → stepped g k (s ∷ σ) ≡ before s (stepped g k σ)
@@ -64,7 +78,7 @@ module _ (g : Grammar) where
   unfolding replayed
   stuck k ks p σ e = ap (after ks p) e
 
-  pub replayed-token : (ks : List ℕ) (p s : ℕ) (σ : List ℕ) → g .N ≤ s → replayed g ks p (s ∷ σ) ≡ front s (replayed g ks p σ)
+  replayed-token : (ks : List ℕ) (p s : ℕ) (σ : List ℕ) → g .N ≤ s → replayed g ks p (s ∷ σ) ≡ front s (replayed g ks p σ)
   unfolding replayed complete?
   replayed-token [] p s σ h = rw (le-ltb s (g .N) h) (go (complete? g σ))
     where
@@ -81,6 +95,13 @@ module _ (g : Grammar) where
       go (some τ) e below =
           stepping k ks p (s ∷ σ) (s ∷ τ) (stepped-terminal k s σ h ∙ ap (before s) e) ∙ below τ ∙
           ap (front s) (sym (stepping k ks p σ τ e))
+
+  pub replayed-tokens : (ts ks : List ℕ) (p : ℕ) (σ : List ℕ) → ((i : ℕ) → i < length ts → g .N ≤ getD ts i 0) →
+      replayed g ks p (ts ++ σ) ≡ allFront ts (replayed g ks p σ)
+  replayed-tokens [] ks p σ h = refl
+  replayed-tokens (s ∷ ts) ks p σ h =
+      replayed-token ks p s (ts ++ σ) (h 0 (omega arith)) ∙
+      ap (front s) (replayed-tokens ts ks p σ (λ i l. h (suc i) (omega arith)))
 
   replayed-remains : (p s : ℕ) (σ : List ℕ) → s < g .N → replayed g [] p (s ∷ σ) ≡ stopped p
   unfolding replayed complete?

@@ -1,11 +1,13 @@
 -- A run of `replay` from the start to the end: the tokens passed so far stand in the buffer, and in front of what the replay
 -- comes to from there on; at the end nothing but they is left. And so the rows of document 01. Assumes nothing.
 use mathlib.Core.Path.{_≡_, refl, sym, ap, _∙_, subst}
-use mathlib.Core.List.{List, [], _∷_}
-use Prim.Native.Nat.{ℕ, _≤_, _<_}
+use mathlib.Core.List.{List, [], _++_}
+use Prim.Native.Nat.{ℕ, _+_, _≤_, _<_}
 use native.Mathlib.Omega.{arith}
-use lib.ListN.{length, take, set}
+use lib.ListN.{length, take, length-append}
+use lib.Seq.{sets, sets-eq}
 use Rattle.answers.specs.Buffers.{over}
+use Rattle.answers.proofs.Stores.{sets-append}
 use Rattle.answers.proofs.WrittenFromFront.{written}
 use Rattle.grammar.specs.Words.{Grammar, layout, reads}
 use Rattle.grammar.specs.Derivation.{Start}
@@ -15,22 +17,22 @@ use Rattle.grammar.proofs.RulePlaces as places
 use Rattle.grammar.proofs.Replay.{stopped, replayed, replay, replay-exact, replay-stops}
 use Rattle.grammar.proofs.RulesInView.{View, viewed-rule}
 use Rattle.handout.specs.Replay.{Replay, row-11, row-3, done}
-use Rattle.handout.specs.ReplaySteps.{side, waiting, formOf, rest, inFront, allFront, stored, Ground, Kept, Onward}
-use Rattle.handout.specs.ReplaySteps.{Bounded, Moved, turned, token, Whole, Ended, Ran}
-use Rattle.handout.specs.declared.replayed.Open.{Open}
+use Rattle.handout.specs.Forms.{side, waiting, formOf, Passed}
+use Rattle.handout.specs.ReplaySteps.{rest, allFront, Ground, Kept, Onward, Bounded, Turned, Whole, Ended, Ran}
+use Rattle.handout.specs.declared.forms.Open.{Open}
 use Rattle.handout.specs.declared.replayed.Move.{Move}
 use Rattle.handout.specs.declared.replayed.Move.the-variants.{On, End, Stop}
 use Rattle.handout.specs.declared.replayed.Outcome.{Outcome}
 use Rattle.handout.specs.declared.replayed.Outcome.the-variants.{Sentence, Stopped}
 use Rattle.handout.specs.declared.ReplayAnswer.{ReplayAnswer}
 use Rattle.handout.specs.declared.ReplayAnswer.the-variants.{Done, Refused}
-use Rattle.handout.proofs.ReplayForms.{all-derived, all-stopped, in-front-length, stored-over}
-use Rattle.handout.proofs.ReplayStepped.{counted}
+use Rattle.handout.proofs.ReplayMoves.{all-front-append, all-front-derived, all-front-stopped}
+use Rattle.handout.proofs.ReplayStepped.{counted, passes}
 
 pub record Held (g : Grammar) (ws list ats lefts : List ℕ) (o : Open) (before sentence : List ℕ) : Type 0 where
   pub passed : List ℕ
   pub count : o .tokens ≡ length passed
-  pub holds : sentence ≡ stored passed before
+  pub holds : sentence ≡ sets before 0 passed
   pub replays : replay g list ≡ allFront passed (rest g ws list ats lefts o)
 
 -- the start symbol is the word 2
@@ -75,45 +77,41 @@ onward {ws} {list} {ats} {lefts} {ats′} {lefts′} {o} m e z =
 
 module _ {g : Grammar} {ws list ats lefts : List ℕ} {o : Open} {before sentence : List ℕ}
     (held : Held g ws list ats lefts o before sentence) where
-  goes-on : {ats′ lefts′ sentence′ : List ℕ} {o′ : Open} → Moved g ws list ats lefts o sentence (On o′) ats′ lefts′ sentence′ →
-      Held g ws list ats′ lefts′ o′ before sentence′
-  goes-on (turned t) = record {
-    passed = held .passed;
-    count = t .0 ∙ held .count;
-    holds = held .holds;
-    replays = held .replays ∙ ap (allFront (held .passed)) (t .1);
-  }
-  goes-on (token s e t) = record {
-    passed = s ∷ held .passed;
-    count = omega (arith, held .count);
-    holds = ap (λ (l : List ℕ). set l (o .tokens) s) (held .holds) ∙
-        ap (λ (i : ℕ). set (stored (held .passed) before) i s) (held .count);
-    replays = held .replays ∙ ap (allFront (held .passed)) t;
+  pub held-passed : {starts : List ℕ} {n rules : ℕ} {o′ : Open} {sentence′ : List ℕ} → Kept ws list ats lefts o →
+      View ws starts n rules g → Passed ws n o sentence o′ sentence′ → Held g ws list ats lefts o′ before sentence′
+  held-passed kept view p = record {
+    passed = held .passed ++ p .ts;
+    count = omega (arith, held .count, p .more-tokens, length-append (held .passed) (p .ts));
+    holds = p .stored ∙ ap (λ (l : List ℕ). sets l (o .tokens) (p .ts)) (held .holds) ∙
+        ap (λ (i : ℕ). sets (sets before 0 (held .passed)) i (p .ts))
+        (let e : o .tokens ≡ 0 + length (held .passed) = omega (arith, held .count) in e) ∙
+        sym (sets-append (held .passed) (p .ts) before 0);
+    replays = held .replays ∙ ap (allFront (held .passed)) (passes kept p g (omega (arith, view .nonterminals))) ∙
+        sym (all-front-append (held .passed) (p .ts) _);
   }
 
-  comes-to : {ats′ lefts′ sentence′ : List ℕ} {tokens : ℕ} →
-      Moved g ws list ats lefts o sentence (End tokens) ats′ lefts′ sentence′ → Whole g list before sentence′ tokens
-  comes-to (turned t) = record {
-    passed = held .passed;
-    count = t .0 ∙ held .count;
-    holds = held .holds;
-    derives = held .replays ∙ ap (allFront (held .passed)) (t .1) ∙ all-derived (held .passed) [];
-  }
+  module _ (ats′ lefts′ : List ℕ) (m : Move) (turned : Turned g ws list ats lefts o m ats′ lefts′) where
+    by : {m′ : Move} → m ≡ m′ → Turned g ws list ats lefts o m′ ats′ lefts′
+    by e = subst (λ (x : Move). Turned g ws list ats lefts o x ats′ lefts′) e turned
 
-  halts : {ats′ lefts′ sentence′ : List ℕ} {p : ℕ} → Moved g ws list ats lefts o sentence (Stop p) ats′ lefts′ sentence′ →
-      replay g list ≡ stopped p
-  halts {p = p} (turned t) = held .replays ∙ ap (allFront (held .passed)) t ∙ all-stopped (held .passed) p
+    pub held-on : {o′ : Open} → m ≡ On o′ → Held g ws list ats′ lefts′ o′ before sentence
+    held-on e = record {
+      passed = held .passed;
+      count = by e .0 ∙ held .count;
+      holds = held .holds;
+      replays = held .replays ∙ ap (allFront (held .passed)) (by e .1);
+    }
 
-  module _ {ats′ lefts′ sentence′ : List ℕ} (m : Move)
-      (moved : Moved g ws list ats lefts o sentence m ats′ lefts′ sentence′) where
-    pub held-on : {o′ : Open} → m ≡ On o′ → Held g ws list ats′ lefts′ o′ before sentence′
-    held-on e = goes-on (subst (λ (x : Move). Moved g ws list ats lefts o sentence x ats′ lefts′ sentence′) e moved)
-
-    pub held-end : {tokens : ℕ} → m ≡ End tokens → Whole g list before sentence′ tokens
-    held-end e = comes-to (subst (λ (x : Move). Moved g ws list ats lefts o sentence x ats′ lefts′ sentence′) e moved)
+    pub held-end : {tokens : ℕ} → m ≡ End tokens → Whole g list before sentence tokens
+    held-end e = record {
+      passed = held .passed;
+      count = by e .0 ∙ held .count;
+      holds = held .holds;
+      derives = held .replays ∙ ap (allFront (held .passed)) (by e .1) ∙ all-front-derived (held .passed);
+    }
 
     pub held-stop : {p : ℕ} → m ≡ Stop p → replay g list ≡ stopped p
-    held-stop e = halts (subst (λ (x : Move). Moved g ws list ats lefts o sentence x ats′ lefts′ sentence′) e moved)
+    held-stop {p} e = held .replays ∙ ap (allFront (held .passed)) (by e) ∙ all-front-stopped (held .passed) p
 
 -- the bounds that a grammar gives
 pub ground : {ws starts list : List ℕ} {n rules : ℕ} {g : Grammar} → View ws starts n rules g → length list ≤ 4096 →
@@ -131,6 +129,11 @@ ground {ws} {starts} {list} {n} {rules} {g} view few = record {
 pub three-words : {ws starts : List ℕ} {n rules : ℕ} {g : Grammar} → View ws starts n rules g → 3 ≤ length ws
 three-words {ws} {g = g} view = rw (layout-exact ws g .0 (view .is) .1) (omega arith)
 
+-- tokens stored from the front on, as far as they go
+stored-over : (t before : List ℕ) → length t ≤ length before → sets before 0 t ≡ over t before
+unfolding over
+stored-over t before h = let e : 0 + length t ≡ length t = omega arith in rw e at (sets-eq t before 0 (omega arith))
+
 -- the rows of a list that is not too long
 module _ {ws starts list : List ℕ} {n rules : ℕ} {g : Grammar} (view : View ws starts n rules g) (few : length list ≤ 4096) where
   pub answers-11 : {aside before after : List ℕ} {r : Outcome} {p : ℕ} {a : ReplayAnswer} → Ran g list aside r after →
@@ -141,8 +144,8 @@ module _ {ws starts list : List ℕ} {n rules : ℕ} {g : Grammar} (view : View 
   short : {aside before after : List ℕ} {tokens : ℕ} → Whole g list aside after tokens → length before < tokens →
       Replay ws list before (Refused 3 tokens) before
   short {tokens = tokens} whole h =
-      let t = inFront (whole .passed) [] in
-      let long : tokens ≡ length t = omega (arith, whole .count, in-front-length (whole .passed) []) in
+      let t = whole .passed in
+      let long : tokens ≡ length t = whole .count in
       rw long (row-3 (view .is) few (replay-exact g list t .0 (whole .derives)) (omega arith))
 
   whole-of : {aside after : List ℕ} {r : Outcome} {tokens : ℕ} → Ran g list aside r after → r ≡ Sentence tokens →
@@ -159,21 +162,20 @@ module _ {ws starts list : List ℕ} {n rules : ℕ} {g : Grammar} (view : View 
   writes {before = before} {after′ = after′} {tokens = tokens} whole whole′ room =
       let d = whole .derives in
       let d′ = whole′ .derives in
-      let t = inFront (whole .passed) [] in
-      let same : inFront (whole′ .passed) [] ≡ t = cc in
-      let long : tokens ≡ length t = omega (arith, whole .count, in-front-length (whole .passed) []) in
-      let long′ : length (whole′ .passed) ≡ length t = omega (arith, ap length same, in-front-length (whole′ .passed) []) in
+      let t = whole .passed in
+      let same : whole′ .passed ≡ t = cc in
+      let long : tokens ≡ length t = whole .count in
       let held : after′ ≡ over t before =
-      whole′ .holds ∙ stored-over (whole′ .passed) before (omega arith) ∙ ap (λ (u : List ℕ). over u before) same in
+      whole′ .holds ∙ ap (λ (u : List ℕ). sets before 0 u) same ∙ stored-over t before (omega arith) in
       rw (held, long) (done (view .is) few (replay-exact g list t .0 d) (omega arith))
 
   -- what was kept aside, if there was room for all of it, is written
   kept-aside : {aside before after : List ℕ} {tokens : ℕ} → Whole g list aside after tokens → tokens ≤ length aside →
       tokens ≤ length before → Replay ws list before (Done tokens) (over (take tokens after) before)
   kept-aside {aside} {before} {after} {tokens} whole fits room =
-      let t = inFront (whole .passed) [] in
-      let long : tokens ≡ length t = omega (arith, whole .count, in-front-length (whole .passed) []) in
-      let held : after ≡ over t aside = whole .holds ∙ stored-over (whole .passed) aside (omega (arith, whole .count)) in
+      let t = whole .passed in
+      let long : tokens ≡ length t = whole .count in
+      let held : after ≡ over t aside = whole .holds ∙ stored-over t aside (omega arith) in
       let first : take (length t) (over t aside) ≡ t = written t aside (omega arith) .front in
       rw (held, long, first) (done (view .is) few (replay-exact g list t .0 (whole .derives)) (omega arith))
 

@@ -2,11 +2,9 @@
 -- Assumes nothing.
 use mathlib.Core.Path.{_≡_, refl, sym, ap, _∙_, subst}
 use mathlib.Core.List.{List, [], _++_}
-use Prim.Native.Nat.{ℕ, suc, _+_, _-_, _≤_, _<_}
-use native.Mathlib.Decide.{decLt}
+use Prim.Native.Nat.{ℕ, _+_, _-_, _≤_, _<_}
 use native.Mathlib.Omega.{arith}
-use lib.ListN.{length, getD, set, drop, length-append, length-set}
-use lib.Seq.{getD-set-same, getD-set-other}
+use lib.ListN.{length, getD, drop, length-append}
 use Rattle.grammar.specs.Words.{Grammar, RuleAt}
 use Rattle.grammar.specs.Walk.{countAt}
 use Rattle.grammar.proofs.RulePlaces as places
@@ -14,11 +12,10 @@ use Rattle.grammar.proofs.RulePlaces.{placeOf}
 use Rattle.grammar.proofs.RuleNumbers.{rule-number}
 use Rattle.grammar.proofs.Replay.{derived, stopped, replayed}
 use Rattle.grammar.proofs.RulesInView.{View, viewed-rule, viewed-left}
-use Rattle.handout.specs.ReplaySteps.{side, formOf, rest, waitingAbove, passing, opening, front, Ground, Kept, Onward}
-use Rattle.handout.specs.ReplaySteps.{Moved, turned, token}
-use Rattle.handout.specs.declared.replayed.Move.the-variants.{On}
-use Rattle.handout.specs.declared.replayed.Open.{Open}
-use Rattle.handout.proofs.ReplayForms.{side-is, side-length, form-first, form-above, form-empty, form-opened}
+use Rattle.handout.specs.Forms.{side, formOf, waitingAbove, behind, Passed, Openable, Opened}
+use Rattle.handout.specs.ReplaySteps.{rest, allFront, toDo, Ground, Kept, Onward}
+use Rattle.handout.specs.declared.forms.Open.{Open}
+use Rattle.handout.proofs.FormSteps.{side-is, side-length, form-first, form-above, form-empty, form-passed}
 use Rattle.handout.proofs.ReplayMoves as moves
 
 -- the right side of a rule stands after its count
@@ -73,29 +70,6 @@ module _ {ws list ats lefts : List ℕ} {o : Open} (kept : Kept ws list ats left
       }
 
   module _ (some : 0 < o .left) where
-    form-size : length (formOf ws ats lefts o) ≡ suc (length (formOf ws ats lefts (passing o)))
-    form-size = ap length (form-first ws ats lefts o some)
-
-    -- a token
-    pub passes : (g : Grammar) → g .N ≤ first → rest g ws list ats lefts o ≡ front first (rest g ws list ats lefts (passing o))
-    passes g h = from g (form-first ws ats lefts o some) ∙ moves.replayed-token g (drop (o .next) list) (o .next) first _ h
-
-    pub passes-bounded : Onward ws list ats lefts o ats lefts (passing o)
-    passes-bounded =
-        let size = form-size in
-        record {
-          kept = record {
-            room-ats = kept .room-ats;
-            room-lefts = kept .room-lefts;
-            inside = omega (arith, kept .inside);
-            all-inside = kept .all-inside;
-            waits = kept .waits;
-            used = kept .used;
-            few-tokens = omega (arith, kept .few-tokens);
-          };
-          less = omega arith;
-        }
-
     -- a nonterminal, and no number or none that applies
     module _ {starts : List ℕ} {n rules : ℕ} {g : Grammar} (view : View ws starts n rules g) (below : first < n) where
       nonterminal : first < g .N
@@ -121,94 +95,98 @@ module _ {ws list ats lefts : List ℕ} {o : Open} (kept : Kept ws list ats left
             from g (form-first ws ats lefts o some) ∙
             moves.stops-other g list (o .next) first A _ w more nonterminal (numbered r) (λ e. ne (viewed-left view r ∙ e))
 
-        pub opens : length list ≤ 4096 → k < rules → getD ws (getD starts k 0) 0 ≡ first →
-            rest g ws list ats lefts o ≡
-            rest g ws list (set ats (o .depth) (o .at + 1)) (set lefts (o .depth) (o .left - 1)) (opening ws (getD starts k 0) o)
-        opens few l e =
+        pub opens : {ats′ lefts′ : List ℕ} {o′ : Open} → k < rules → getD ws (getD starts k 0) 0 ≡ first →
+            Opened ws (getD starts k 0) ats lefts o ats′ lefts′ o′ →
+            (o′ .tokens ≡ o .tokens) × (rest g ws list ats lefts o ≡ rest g ws list ats′ lefts′ o′)
+        opens {ats′} {lefts′} {o′} l e opened =
             let (A, w, r) = viewed-rule view k l in
             let same : A ≡ first = sym (viewed-left view r) ∙ e in
             let r′ = subst (λ (B : ℕ). RuleAt g (getD list (o .next) 0) B w) same (numbered r) in
-            let waits = kept .waits in
-            let whole =
-            form-opened ws ats lefts o (getD starts k 0) (omega (arith, kept .room-ats)) (omega (arith, kept .room-lefts)) in
-            from g (form-first ws ats lefts o some) ∙ moves.opens g list (o .next) first _ w more r′ ∙
-            ap (replayed g (drop (o .next + 1) list) (o .next + 1))
-            (ap (λ (l : List ℕ). l ++ formOf ws ats lefts (passing o)) (sym (right-side view r)) ∙ sym whole)
+            let form : w ++ formOf ws ats lefts (behind o) ≡ formOf ws ats′ lefts′ o′ =
+            ap (λ (l : List ℕ). l ++ formOf ws ats lefts (behind o)) (sym (right-side view r)) ∙ sym (opened .form) in (
+              opened .same-tokens,
+              from g (form-first ws ats lefts o some) ∙ moves.opens g list (o .next) first _ w more r′ ∙
+                  ap (replayed g (drop (o .next + 1) list) (o .next + 1)) form ∙
+                  ap (λ (m : ℕ). replayed g (drop m list) m (formOf ws ats′ lefts′ o′)) (sym (opened .one-more)),
+            )
+
+    pub openable : {starts : List ℕ} {rules : ℕ} → Ground ws starts list rules → (k : ℕ) → k < rules → o .next < length list →
+        Openable ws (getD starts k 0) ats lefts o
+    openable ground k l h = record {
+      some = some;
+      few-words = ground .few-words;
+      few-rules = omega (arith, ground .few-numbers);
+      room-ats = omega (arith, kept .waits, kept .room-ats);
+      room-lefts = omega (arith, kept .waits, kept .room-lefts);
+      inside = kept .inside;
+      all-inside = kept .all-inside;
+      whole = ground .whole k l;
+    }
 
     pub opens-bounded : {starts : List ℕ} {rules : ℕ} → Ground ws starts list rules → (k : ℕ) → k < rules →
-        o .next < length list →
-        Onward ws list ats lefts o (set ats (o .depth) (o .at + 1)) (set lefts (o .depth) (o .left - 1))
-        (opening ws (getD starts k 0) o)
-    opens-bounded {starts} ground k l h =
+        o .next < length list → {ats′ lefts′ : List ℕ} {o′ : Open} → Opened ws (getD starts k 0) ats lefts o ats′ lefts′ o′ →
+        length ats′ ≡ length ats → length lefts′ ≡ length lefts → Onward ws list ats lefts o ats′ lefts′ o′
+    opens-bounded {starts} ground k l h opened same-ats same-lefts =
         let at = getD starts k 0 in
-        let d = o .depth in
-        let size = form-size in
+        let size = ap length (form-first ws ats lefts o some) in
         let inside = ground .whole k l in
         let few-words = ground .few-words in
-        let few-numbers = ground .few-numbers in
         let few-tokens = kept .few-tokens in
-        let waits = kept .waits in
-        let room-ats = kept .room-ats in
-        let room-lefts = kept .room-lefts in
-        let whole = ap length (form-opened ws ats lefts o at (omega arith) (omega arith)) in
-        let parts = length-append (side ws (at + 2) (countAt ws at)) (formOf ws ats lefts (passing o)) in
+        let deeper = opened .deeper in
+        let one-more = opened .one-more in
+        let whole = ap length (opened .form) in
+        let parts = length-append (side ws (at + 2) (countAt ws at)) (formOf ws ats lefts (behind o)) in
         let sized = side-length ws (at + 2) (countAt ws at) in
         record {
           kept = record {
-            room-ats = omega (arith, length-set ats d (o .at + 1));
-            room-lefts = omega (arith, length-set lefts d (o .left - 1));
-            inside = inside;
-            all-inside = all-inside;
-            waits = omega arith;
+            room-ats = omega (arith, kept .room-ats);
+            room-lefts = omega (arith, kept .room-lefts);
+            inside = opened .inside;
+            all-inside = opened .all-inside;
+            waits = omega (arith, kept .waits);
             used = omega arith;
-            few-tokens = omega arith;
+            few-tokens = omega (arith, opened .same-tokens);
           };
           less = omega arith;
         }
-      where
-        all-inside : (i : ℕ) → i < o .depth + 1 →
-            getD (set ats (o .depth) (o .at + 1)) i 0 + getD (set lefts (o .depth) (o .left - 1)) i 0 ≤ length ws
-        all-inside i m = go (decLt i (o .depth))
-          where
-            go : Dec (i < o .depth) →
-                getD (set ats (o .depth) (o .at + 1)) i 0 + getD (set lefts (o .depth) (o .left - 1)) i 0 ≤ length ws
-            go (yes b) =
-                let p = getD-set-other ats (o .depth) i (o .at + 1) 0 (λ q. omega arith) in
-                let q = getD-set-other lefts (o .depth) i (o .left - 1) 0 (λ q. omega arith) in
-                omega (arith, kept .all-inside i b)
-            go (no b) =
-                let same : i ≡ o .depth = omega arith in
-                let few = ground .few-numbers in
-                let p = getD-set-same ats (o .depth) (o .at + 1) 0 (omega (arith, kept .room-ats, kept .waits)) in
-                let q = getD-set-same lefts (o .depth) (o .left - 1) 0 (omega (arith, kept .room-lefts, kept .waits)) in
-                rw same (omega (arith, kept .inside))
-
--- an opening, as the stack holds it
-pub expanded : (ws list ats lefts : List ℕ) (o : Open) (at : ℕ) {ats′ lefts′ : List ℕ} {o′ : Open} →
-    ats′ ≡ set ats (o .depth) (o .at + 1) → lefts′ ≡ set lefts (o .depth) (o .left - 1) → o′ ≡ opening ws at o →
-    Onward ws list ats lefts o (set ats (o .depth) (o .at + 1)) (set lefts (o .depth) (o .left - 1)) (opening ws at o) →
-    Onward ws list ats lefts o ats′ lefts′ o′
-expanded ws list ats lefts o at p q r z = rw (p, q, r) z
-
-pub expands : (g : Grammar) (ws list ats lefts : List ℕ) (o : Open) (at : ℕ) {ats′ lefts′ : List ℕ} {o′ : Open} →
-    ats′ ≡ set ats (o .depth) (o .at + 1) → lefts′ ≡ set lefts (o .depth) (o .left - 1) → o′ ≡ opening ws at o →
-    rest g ws list ats lefts o ≡
-    rest g ws list (set ats (o .depth) (o .at + 1)) (set lefts (o .depth) (o .left - 1)) (opening ws at o) →
-    (o′ .tokens ≡ o .tokens) × (rest g ws list ats lefts o ≡ rest g ws list ats′ lefts′ o′)
-expands g ws list ats lefts o at p q r z = rw (p, q, r) (refl, z)
-
--- a token, as the buffer holds it
-pub copied : (g : Grammar) (ws list ats lefts : List ℕ) (o : Open) (sentence : List ℕ) (s : ℕ) {sentence′ : List ℕ} →
-    sentence′ ≡ set sentence (o .tokens) s → rest g ws list ats lefts o ≡ front s (rest g ws list ats lefts (passing o)) →
-    Moved g ws list ats lefts o sentence (On (passing o)) ats lefts sentence′
-copied g ws list ats lefts o sentence s e z = rw e (token s refl z)
 
 -- a step back
 pub went-back : {ws list ats lefts : List ℕ} {o o′ : Open} → Kept ws list ats lefts o → o .left ≡ 0 → 0 < o .depth →
     o′ ≡ waitingAbove ats lefts o → Onward ws list ats lefts o ats lefts o′
 went-back kept h d e = rw e (back-bounded kept h d)
 
-pub goes-back : {ws list ats lefts sentence : List ℕ} {o o′ : Open} → Kept ws list ats lefts o → o .left ≡ 0 → 0 < o .depth →
-    o′ ≡ waitingAbove ats lefts o → (g : Grammar) → Moved g ws list ats lefts o sentence (On o′) ats lefts sentence
-goes-back {ats = ats} {lefts = lefts} {o = o} kept h d e g =
-    rw e (turned {m = On (waitingAbove ats lefts o)} (refl, back kept g h d))
+pub goes-back : {ws list ats lefts : List ℕ} {o o′ : Open} → Kept ws list ats lefts o → o .left ≡ 0 → 0 < o .depth →
+    o′ ≡ waitingAbove ats lefts o → (g : Grammar) →
+    (o′ .tokens ≡ o .tokens) × (rest g ws list ats lefts o ≡ rest g ws list ats lefts o′)
+goes-back kept h d e g = rw e (refl, back kept g h d)
+
+-- tokens passed
+module _ {ws list ats lefts : List ℕ} {n : ℕ} {o o′ : Open} {sentence sentence′ : List ℕ} (kept : Kept ws list ats lefts o)
+    (passed : Passed ws n o sentence o′ sentence′) where
+  pub passes : (g : Grammar) → g .N ≤ n → rest g ws list ats lefts o ≡ allFront (passed .ts) (rest g ws list ats lefts o′)
+  passes g h =
+      from kept g (form-passed ws ats lefts o passed) ∙
+      moves.replayed-tokens g (passed .ts) (drop (o .next) list) (o .next) (formOf ws ats lefts o′)
+      (λ i l. omega (arith, passed .all-tokens i l)) ∙
+      ap (λ (m : ℕ). allFront (passed .ts) (replayed g (drop m list) m (formOf ws ats lefts o′))) (sym (passed .same-next))
+
+  passed-size : length (formOf ws ats lefts o) ≡ length (passed .ts) + length (formOf ws ats lefts o′)
+  passed-size = ap length (form-passed ws ats lefts o passed) ∙ length-append (passed .ts) (formOf ws ats lefts o′)
+
+  pub passes-kept : Kept ws list ats lefts o′
+  passes-kept =
+      let size = passed-size in
+      let depth = passed .same-depth in
+      let next = passed .same-next in
+      record {
+        room-ats = kept .room-ats;
+        room-lefts = kept .room-lefts;
+        inside = omega (arith, kept .inside, passed .same-end);
+        all-inside = λ i l. kept .all-inside i (omega arith);
+        waits = omega (arith, kept .waits);
+        used = omega (arith, kept .used);
+        few-tokens = omega (arith, kept .few-tokens, passed .more-tokens);
+      }
+
+  pub passes-no-more : toDo ws list ats lefts o′ ≤ toDo ws list ats lefts o
+  passes-no-more = omega (arith, passed-size, passed .same-depth, passed .same-next)

@@ -1,47 +1,29 @@
--- What each step of the tree lister needs and leaves: some symbols, and a step up to the context rule of an open leaf, before
--- the leaf and after it. Assumes nothing.
-use Prim.Native.Nat.{ℕ, suc, _+_, _-_, _*_, _≤_, _<_}
-use native.Mathlib.Numerals.{add-one}
+-- What each step of the tree lister needs and leaves: a step up to the context rule of an open leaf, before the leaf and after it.
+-- Assumes nothing.
+use Prim.Native.Nat.{ℕ, suc, _+_, _*_, _≤_, _<_}
 use native.Mathlib.Omega.{arith}
 use mathlib.Core.List.{List, [], _∷_, _++_}
 use mathlib.Core.Path.{_≡_, refl, ap, sym, _∙_}
-use lib.ListN.{length, getD, set, take, drop, length-append, length-drop}
-use lib.Seq.{take-all, length-take-le}
+use lib.ListN.{length, getD, take, drop, length-append}
 use Rattle.grammar.specs.Words.{Grammar, RuleAt}
 use Rattle.grammar.specs.Tree.{Gap, here, past-leaf, past-child, Open, root, down}
 use Rattle.grammar.specs.Measure.{plain}
 use Rattle.grammar.specs.Least.{Context, ContextChoice, ChosenGap, ChosenOpen}
-use Rattle.grammar.proofs.LayoutExact.{in-bounds, rule-short}
+use Rattle.grammar.proofs.LayoutExact.{in-bounds}
 use Rattle.grammar.proofs.RuleNumbers.{rule-number, rule-left}
 use Rattle.grammar.proofs.Unique.{choice-unique, context-unique}
 use Rattle.tables.specs.Table.{entry}
 use Rattle.tables.proofs.TablePlaces.{entry-front}
 use Rattle.grammar.proofs.RulesInView.{viewed-left, viewed-right}
 use Rattle.handout.specs.declared.lister.Lengths.{Lengths}
-use Rattle.handout.specs.Listing.{Known, sizesBy, rightOf, SymbolReady, Wrote}
-use Rattle.handout.specs.TreeListing.{SymbolsReady, SymbolsWritten, Side, before, after, gapTokens, gapRules}
-use Rattle.handout.specs.TreeListing.{tokensOn, rulesOn, SideReady, SideWritten}
-use Rattle.handout.proofs.Listings.{and-then, nothing, sizes-within, number-low}
-use Rattle.handout.proofs.ListerSteps.{Turn}
+use Rattle.handout.specs.Listing.{Known, sizesBy, rightOf, Room, Wrote, SymbolsWritten}
+use Rattle.handout.specs.TreeListing.{BesideReady, frontOf, backOf, FrontWritten, upper, Side, before, after}
+use Rattle.handout.specs.TreeListing.{gapTokens, gapRules, tokensOn, rulesOn, SideReady, SideWritten}
+use Rattle.handout.proofs.Listings.{and-then, nothing}
 use Rattle.handout.proofs.OpenListings.{before-listed, after-listed, gap-within, listed-same, listed-size}
 
-module _ {words starts table : List ℕ} {n : ℕ} where
-  -- the next of some symbols can be listed
-  pub symbol-of-ready : {w a b x y : List ℕ} {p q : Lengths} {i : ℕ} → SymbolsReady words starts table n w p →
-      Turn words starts table n w a b x y p q i → i < length w → SymbolReady words starts table n (getD w i 0) q
-  symbol-of-ready {w} {i = i} ready turn h = record {
-    g = ready .g;
-    known = ready .known;
-    room = omega (arith, ready .room, turn .done .counted, sizes-within n table w i h);
-  }
-
-  -- after the last one
-  pub symbols-listed : {w a b x y : List ℕ} {p q : Lengths} {i : ℕ} → Turn words starts table n w a b x y p q i → length w ≤ i →
-      SymbolsWritten words starts table n w a b x y p q
-  symbols-listed {w} {i = i} turn h = rw (take-all i w h) at (turn .done)
-
 module _ {words starts table : List ℕ} {n : ℕ} {g : Grammar} (known : Known words starts table n g) where
-  known-context : (A : ℕ) → A < g .N → Context plain g A (entry table A 2)
+  pub known-context : (A : ℕ) → A < g .N → Context plain g A (entry table A 2)
   known-context A lt = rw (entry-front g table A 2 lt (omega arith)) at (known .tabled .contexts A lt)
 
   known-choice : (A : ℕ) → A < g .N → ¬ (A ≡ g .start) → ContextChoice plain g A (entry table A 3) (entry table A 4)
@@ -96,7 +78,7 @@ module _ {words starts table : List ℕ} {n : ℕ} {g : Grammar} (known : Known 
         rules-after = refl;
       })
 
-  open-nonterminal : {A : ℕ} → Open g A → A < g .N
+  pub open-nonterminal : {A : ℕ} → Open g A → A < g .N
   open-nonterminal root = in-bounds words (known .view .is) .start-below
   open-nonterminal (down k r x a) = gap-nonterminal a
 
@@ -113,16 +95,8 @@ pub wrote-as : {us us′ vs vs′ a b x y : List ℕ} {p q : Lengths} → us ≡
     Wrote us′ vs′ a b x y p q
 wrote-as e f h = rw (← e, ← f) h
 
--- the symbols after place i
-abbrev pub rest : ℕ → List ℕ → List ℕ
-rest i symbols = take (length symbols - (i + 1)) (drop (i + 1) symbols)
-
-rest-is : (i : ℕ) (symbols : List ℕ) → rest i symbols ≡ drop (suc i) symbols
-rest-is i symbols =
-    take-all (length symbols - (i + 1)) (drop (i + 1) symbols) (omega (arith, length-drop (i + 1) symbols))
-    ∙ ap (λ (m : ℕ). drop m symbols) (add-one i)
-
 module _ {words starts table : List ℕ} {n start : ℕ} where
+  -- nothing lies beside the start
   pub start-written : (side : Side) {A : ℕ} {a x : List ℕ} {p : Lengths} → A ≡ start →
       SideWritten side words starts table n start A a a x x p p
   start-written side {a = a} {x = x} {p = p} e =
@@ -130,149 +104,119 @@ module _ {words starts table : List ℕ} {n start : ℕ} where
       let (us, vs) = at-start known side above h (e ∙ s) in
       wrote-as (sym us) (sym vs) (nothing a x p)
 
-  pub leaf-low : {side : Side} {A : ℕ} {p : Lengths} → SideReady side words starts table n start A p → A < 128
-  leaf-low ready =
-      omega (arith, open-nonterminal (ready .known) (ready .above), in-bounds words (ready .known .view .is) .nonterminals)
-
   -- the step up that the tree lister takes, from what it reads of the table and the words
-  step-up : {side : Side} {A k i B : ℕ} {p : Lengths} (ready : SideReady side words starts table n start A p) → ¬ (A ≡ start) →
-      k ≡ entry table A 3 → i ≡ entry table A 4 → B ≡ getD words (getD starts k 0) 0 → Up (ready .known) (ready .above) k i B
-  step-up {k = k} {i = i} {B = B} ready d =
-      up (ready .known) (ready .above) (ready .follows) (λ e. d (e ∙ sym (ready .starts-at))) k i B
+  module _ {side : Side} {A : ℕ} {p : Lengths} {most : ℕ} (ready : SideReady side words starts table n start A p most)
+      (d : ¬ (A ≡ start)) where
+    z : Up (ready .known) (ready .above) (entry table A 3) (entry table A 4) (upper words starts table A)
+    z = up (ready .known) (ready .above) (ready .follows) (λ e. d (e ∙ sym (ready .starts-at))) _ _ _ refl refl refl
 
-  module _ {side : Side} {A k : ℕ} {p : Lengths} (ready : SideReady side words starts table n start A p) (d : ¬ (A ≡ start))
-      (ek : k ≡ entry table A 3) where
-    pub rule-low : k < 256
-    rule-low = number-low (ready .known) (rule-number (step-up ready d ek refl refl .rule))
-
-  module _ {side : Side} {A k i : ℕ} {p : Lengths} (ready : SideReady side words starts table n start A p) (d : ¬ (A ≡ start))
-      (ek : k ≡ entry table A 3) (ei : i ≡ entry table A 4) where
-    pub place-low : i < 32
-    place-low =
-        let z = step-up ready d ek ei refl in
-        omega (arith, gap-within (z .gap), rule-short (in-bounds words (ready .known .view .is)) (z .rule))
-
-    pub place-within : {symbols : List ℕ} → symbols ≡ rightOf words starts k → i < length symbols
-    place-within e =
-        let z = step-up ready d ek ei refl in
-        omega (arith, gap-within (z .gap), ap length (z .right), ap length e)
-
-    pub place-exact : {symbols : List ℕ} → symbols ≡ rightOf words starts k → i ≡ length (take i symbols)
-    place-exact {symbols} e = sym (length-take-le i symbols (omega (arith, place-within e)))
-
-    module _ {B : ℕ} (eB : B ≡ getD words (getD starts k 0) 0) where
-      pub context-falls : entry table B 2 < entry table A 2
-      context-falls = step-up ready d ek ei eB .falls
+    -- what is beside the leaf in the context rule can be listed, where there is room
+    beside-ready : {size : ℕ} {q : Lengths} {ats lefts : List ℕ} → Room most ats lefts → q .tokens + q .rules + size ≤ most →
+        BesideReady words starts table n A size q ats lefts
+    beside-ready room h = record {
+      g = ready .g;
+      known = ready .known;
+      leaf = omega (arith, open-nonterminal (ready .known) (ready .above), ready .known .view .nonterminals);
+      number = rule-number (z .rule);
+      place = omega (arith, gap-within (z .gap), ap length (z .right));
+      most = most;
+      room = room;
+      within = h;
+    }
 
   -- before an open leaf
-  module _ {A k i B : ℕ} {p : Lengths} (ready : SideReady before words starts table n start A p) (d : ¬ (A ≡ start))
-      (ek : k ≡ entry table A 3) (ei : i ≡ entry table A 4) (eB : B ≡ getD words (getD starts k 0) 0) where
-    z : Up (ready .known) (ready .above) k i B
-    z = step-up ready d ek ei eB
+  module _ {A : ℕ} {p : Lengths} {most : ℕ} (ready : SideReady before words starts table n start A p most)
+      (d : ¬ (A ≡ start)) where
+    abbrev u : Up (ready .known) (ready .above) (entry table A 3) (entry table A 4) (upper words starts table A)
+    u = z ready d
 
     tokens-long :
-        length (tokensOn before (ready .above)) ≡ length (tokensOn before (z .above)) + length (gapTokens before (z .gap))
-    tokens-long = ap length (z .tokens-before) ∙ length-append (tokensOn before (z .above)) (gapTokens before (z .gap))
+        length (tokensOn before (ready .above)) ≡ length (tokensOn before (u .above)) + length (gapTokens before (u .gap))
+    tokens-long = ap length (u .tokens-before) ∙ length-append (tokensOn before (u .above)) (gapTokens before (u .gap))
 
     rules-long :
-        length (rulesOn before (ready .above)) ≡ length (rulesOn before (z .above)) + suc (length (gapRules before (z .gap)))
-    rules-long = ap length (z .rules-before) ∙ length-append (rulesOn before (z .above)) (k ∷ gapRules before (z .gap))
+        length (rulesOn before (ready .above)) ≡ length (rulesOn before (u .above)) + suc (length (gapRules before (u .gap)))
+    rules-long = ap length (u .rules-before) ∙ length-append (rulesOn before (u .above)) (entry table A 3 ∷ gapRules before (u .gap))
 
-    pub before-ready : SideReady before words starts table n start B p
+    pub before-ready : SideReady before words starts table n start (upper words starts table A) p most
     before-ready = record {
       g = ready .g;
       known = ready .known;
       starts-at = ready .starts-at;
-      above = z .above;
-      follows = z .follows;
-      room = omega (arith, ready .room, tokens-long, rules-long);
+      above = u .above;
+      follows = u .follows;
+      within = omega (arith, ready .within, tokens-long, rules-long);
     }
 
-    module _ {a b x y : List ℕ} {q : Lengths} (above : SideWritten before words starts table n start B a b x y p q) where
-      there : Wrote (tokensOn before (z .above)) (rulesOn before (z .above)) a b x y p q
-      there = above (ready .g) (ready .known) (ready .starts-at) (z .above) (z .follows)
+    pub front-ready : {a b x y ats lefts : List ℕ} {q : Lengths} → Room most ats lefts →
+        SideWritten before words starts table n start (upper words starts table A) a b x y p q →
+        BesideReady words starts table n A (1 + sizesBy n table (frontOf words starts table A)) q ats lefts
+    front-ready {q = q} room above =
+        let there = above (ready .g) (ready .known) (ready .starts-at) (u .above) (u .follows) in
+        let size = listed-size (ready .known) (before-listed (u .gap) (u .chosen)) in
+        let same = ap (λ w. sizesBy n table (take (entry table A 4) w)) (u .right) in
+        let us = there .more-tokens in
+        let vs = there .more-rules in
+        beside-ready ready d room (omega (arith, ready .within, tokens-long, rules-long, us, vs, size, same))
 
-      pub number-ready : (k < 65536) × (q .rules < 65536)
-      number-ready = (omega (arith, rule-low ready d ek), omega (arith, ready .room, rules-long, there .more-rules))
-
-      module _ {y′ symbols : List ℕ} {r : Lengths} (so : (r .tokens ≡ q .tokens) × (r .rules ≡ q .rules + 1))
-          (put : y′ ≡ set y (q .rules) k) (e : symbols ≡ rightOf words starts k) where
-        pub front-ready : SymbolsReady words starts table n (take i symbols) r
-        front-ready =
-            let size = listed-size (ready .known) (before-listed (z .gap) (z .chosen)) in
-            let same = ap (λ w. sizesBy n table (take i w)) (e ∙ z .right) in
-            record {
-              g = ready .g;
-              known = ready .known;
-              room =
-                  let us = there .more-tokens in
-                  let vs = there .more-rules in
-                  omega (arith, ready .room, tokens-long, rules-long, us, vs, so .0, so .1, size, same);
-            }
-
-        number : Wrote [] (k ∷ []) b b y y′ q r
-        number = record { more-tokens = omega (arith, so .0); more-rules = so .1; sentence = refl; derivation = put }
-
-        pub before-written : {c v : List ℕ} {s : Lengths} → SymbolsWritten words starts table n (take i symbols) b c y′ v r s →
-            SideWritten before words starts table n start A a c x v p s
-        before-written beside =
-            λ g known s open-tree h.
-            let u = up known open-tree h (λ e. d (e ∙ sym s)) k i B ek ei eB in
-            let l = beside .listed g known in
-            let (us, vs) = listed-same (rw (e ∙ u .right) at (l .lists)) (before-listed (u .gap) (u .chosen)) in
-            let all = and-then (above g known s (u .above) (u .follows)) (and-then number (l .wrote)) in
-            wrote-as (ap (λ m. tokensOn before (u .above) ++ m) us ∙ sym (u .tokens-before))
-            (ap (λ m. rulesOn before (u .above) ++ (k ∷ m)) vs ∙ sym (u .rules-before)) all
+  pub before-written : {A : ℕ} {p q r : Lengths} {a b c x y v : List ℕ} → ¬ (A ≡ start) →
+      SideWritten before words starts table n start (upper words starts table A) a b x y p q →
+      FrontWritten words starts table n A b c y v q r → SideWritten before words starts table n start A a c x v p r
+  before-written {A} d above front =
+      λ g known s open-tree h.
+      let u = up known open-tree h (λ e. d (e ∙ sym s)) _ _ _ refl refl refl in
+      let l = front .listed g known in
+      let m = rw (u .right) at (l .lists .symbols) in
+      let (us, vs) = listed-same m (before-listed (u .gap) (u .chosen)) in
+      let all = and-then (above g known s (u .above) (u .follows)) (l .wrote) in
+      wrote-as (ap (λ m. tokensOn before (u .above) ++ m) us ∙ sym (u .tokens-before))
+      (ap (λ m. rulesOn before (u .above) ++ m) (l .lists .is ∙ ap (λ m. entry table A 3 ∷ m) vs) ∙ sym (u .rules-before)) all
 
   -- after an open leaf
-  module _ {A k i : ℕ} {p : Lengths} {symbols : List ℕ} (ready : SideReady after words starts table n start A p)
-      (d : ¬ (A ≡ start)) (ek : k ≡ entry table A 3) (ei : i ≡ entry table A 4) (e : symbols ≡ rightOf words starts k) where
-    module _ {B : ℕ} (eB : B ≡ getD words (getD starts k 0) 0) where
-      z′ : Up (ready .known) (ready .above) k i B
-      z′ = step-up ready d ek ei eB
+  module _ {A : ℕ} {p : Lengths} {most : ℕ} (ready : SideReady after words starts table n start A p most)
+      (d : ¬ (A ≡ start)) where
+    abbrev u′ : Up (ready .known) (ready .above) (entry table A 3) (entry table A 4) (upper words starts table A)
+    u′ = z ready d
 
-      tokens-long′ :
-          length (tokensOn after (ready .above)) ≡ length (gapTokens after (z′ .gap)) + length (tokensOn after (z′ .above))
-      tokens-long′ = ap length (z′ .tokens-after) ∙ length-append (gapTokens after (z′ .gap)) (tokensOn after (z′ .above))
+    tokens-long′ :
+        length (tokensOn after (ready .above)) ≡ length (gapTokens after (u′ .gap)) + length (tokensOn after (u′ .above))
+    tokens-long′ = ap length (u′ .tokens-after) ∙ length-append (gapTokens after (u′ .gap)) (tokensOn after (u′ .above))
 
-      rules-long′ : length (rulesOn after (ready .above)) ≡ length (gapRules after (z′ .gap)) + length (rulesOn after (z′ .above))
-      rules-long′ = ap length (z′ .rules-after) ∙ length-append (gapRules after (z′ .gap)) (rulesOn after (z′ .above))
+    rules-long′ : length (rulesOn after (ready .above)) ≡ length (gapRules after (u′ .gap)) + length (rulesOn after (u′ .above))
+    rules-long′ = ap length (u′ .rules-after) ∙ length-append (gapRules after (u′ .gap)) (rulesOn after (u′ .above))
 
-      size′ : sizesBy n table (rest i symbols) ≡ length (gapTokens after (z′ .gap)) + length (gapRules after (z′ .gap))
-      size′ =
-          ap (sizesBy n table) (rest-is i symbols ∙ ap (λ w. drop (suc i) w) (e ∙ z′ .right))
-          ∙ listed-size (ready .known) (after-listed (z′ .gap) (z′ .chosen))
+    size′ : sizesBy n table (backOf words starts table A) ≡
+        length (gapTokens after (u′ .gap)) + length (gapRules after (u′ .gap))
+    size′ =
+        ap (λ w. sizesBy n table (drop (suc (entry table A 4)) w)) (u′ .right)
+        ∙ listed-size (ready .known) (after-listed (u′ .gap) (u′ .chosen))
 
-      back-ready′ : SymbolsReady words starts table n (rest i symbols) p
-      back-ready′ = record {
-        g = ready .g;
-        known = ready .known;
-        room = omega (arith, ready .room, tokens-long′, rules-long′, size′);
-      }
+    pub back-ready : {ats lefts : List ℕ} → Room most ats lefts →
+        BesideReady words starts table n A (sizesBy n table (backOf words starts table A)) p ats lefts
+    back-ready room = beside-ready ready d room (omega (arith, ready .within, tokens-long′, rules-long′, size′))
 
-    pub back-ready : SymbolsReady words starts table n (rest i symbols) p
-    back-ready = back-ready′ refl
+    pub after-ready : {a b x y : List ℕ} {q : Lengths} →
+        SymbolsWritten words starts table n (backOf words starts table A) a b x y p q →
+        SideReady after words starts table n start (upper words starts table A) q most
+    after-ready beside = record {
+      g = ready .g;
+      known = ready .known;
+      starts-at = ready .starts-at;
+      above = u′ .above;
+      follows = u′ .follows;
+      within = omega (arith, ready .within, tokens-long′, rules-long′, size′, beside .counted);
+    }
 
-    module _ {a b x y : List ℕ} {q : Lengths} (beside : SymbolsWritten words starts table n (rest i symbols) a b x y p q)
-        {B : ℕ} (eB : B ≡ getD words (getD starts k 0) 0) where
-      pub after-ready : SideReady after words starts table n start B q
-      after-ready = record {
-        g = ready .g;
-        known = ready .known;
-        starts-at = ready .starts-at;
-        above = z′ eB .above;
-        follows = z′ eB .follows;
-        room = omega (arith, ready .room, tokens-long′ eB, rules-long′ eB, size′ eB, beside .counted);
-      }
-
-      pub after-written : {c v : List ℕ} {r : Lengths} → SideWritten after words starts table n start B b c y v q r →
-          SideWritten after words starts table n start A a c x v p r
-      after-written above =
-          λ g known s open-tree h.
-          let u = up known open-tree h (λ e. d (e ∙ sym s)) k i B ek ei eB in
-          let l = beside .listed g known in
-          let are = rest-is i symbols ∙ ap (λ w. drop (suc i) w) (e ∙ u .right) in
-          let (us, vs) = listed-same (rw are at (l .lists)) (after-listed (u .gap) (u .chosen)) in
-          let all = and-then (l .wrote) (above g known s (u .above) (u .follows)) in
-          wrote-as (ap (λ m. m ++ tokensOn after (u .above)) us ∙ sym (u .tokens-after))
-          (ap (λ m. m ++ rulesOn after (u .above)) vs ∙ sym (u .rules-after)) all
+  pub after-written : {A : ℕ} {p q r : Lengths} {a b c x y v : List ℕ} → ¬ (A ≡ start) →
+      SymbolsWritten words starts table n (backOf words starts table A) a b x y p q →
+      SideWritten after words starts table n start (upper words starts table A) b c y v q r →
+      SideWritten after words starts table n start A a c x v p r
+  after-written d beside above =
+      λ g known s open-tree h.
+      let u = up known open-tree h (λ e. d (e ∙ sym s)) _ _ _ refl refl refl in
+      let l = beside .listed g known in
+      let m = rw (u .right) at (l .lists) in
+      let (us, vs) = listed-same m (after-listed (u .gap) (u .chosen)) in
+      let all = and-then (l .wrote) (above g known s (u .above) (u .follows)) in
+      wrote-as (ap (λ m. m ++ tokensOn after (u .above)) us ∙ sym (u .tokens-after))
+      (ap (λ m. m ++ rulesOn after (u .above)) vs ∙ sym (u .rules-after)) all

@@ -1,28 +1,31 @@
--- What listing the tree of a rule needs and leaves: it is at most 4,096 numbers, and they are what lies before the rule's left
--- side, the rule's listing, and what lies after. Assumes nothing.
-use Prim.Native.Nat.{ℕ, _+_, _≤_, _<_}
+-- What listing the tree of a rule needs and leaves: it is as many numbers as the table's total says, and they are what lies before the
+-- rule's left side, the rule's listing, and what lies after. Assumes nothing.
+use Prim.Native.Nat.{ℕ, _+_, _*_, _≤_, _<_}
 use native.Mathlib.Omega.{arith}
 use mathlib.Core.List.{List, _++_}
-use mathlib.Core.Path.{_≡_, ap, sym, _∙_}
+use mathlib.Core.Path.{_≡_, refl, ap, sym, _∙_}
 use lib.ListN.{length, getD, length-append}
 use Rattle.grammar.specs.Words.{Grammar}
-use Rattle.grammar.specs.Tree.{Tree, node, sentence, sentences, derivation}
+use Rattle.grammar.specs.Tree.{Tree, node, sentence, sentences, derivation, derivations}
 use Rattle.grammar.specs.Measure.{plain}
 use Rattle.grammar.specs.Least.{TreeOf}
 use Rattle.grammar.proofs.LayoutExact.{in-bounds}
 use Rattle.grammar.proofs.SizeIsLength.{size-is-length}
 use Rattle.grammar.proofs.TreeOfExists.{tree-of-exists}
 use Rattle.grammar.proofs.Totals.{tree-of-total}
-use Rattle.grammar.proofs.Unique.{total-unique}
-use Rattle.grammar.proofs.RulesInView.{viewed-left}
+use Rattle.grammar.proofs.Unique.{context-unique, total-unique}
+use Rattle.grammar.proofs.RulesInView.{viewed-left, viewed-right}
+use Rattle.tables.specs.Table.{entry}
+use Rattle.tables.proofs.TablePlaces.{total-front}
 use Rattle.handout.specs.declared.lister.Lengths.{Lengths}
-use Rattle.handout.specs.Listing.{RuleReady, Wrote, RuleWritten}
-use Rattle.handout.specs.TreeListing.{before, after, tokensOn, rulesOn, SideReady, SideWritten, TreeReady, TreeWritten}
-use Rattle.handout.specs.TreeListing.{none-so-far}
-use Rattle.handout.proofs.Listings.{and-then, number-low, rule-fits}
+use Rattle.handout.specs.Listing.{RuleReady, sizesBy, rightOf, Room, SymbolsListed, Wrote, RuleWritten}
+use Rattle.handout.specs.TreeListing.{PathOf, before, after, tokensOn, rulesOn, SideReady, ClimbReady, WayReady}
+use Rattle.handout.specs.TreeListing.{SideWritten, WayWritten, TreeReady, TreeRoom, none-so-far, TreeWritten, TreeCounted}
+use Rattle.handout.proofs.Listings.{and-then}
+use Rattle.handout.proofs.ListerSteps.{room-kept}
 use Rattle.handout.proofs.ListerWrites.{rule-written}
-use Rattle.handout.proofs.OpenListings.{plug-tokens, plug-rules}
-use Rattle.handout.proofs.TreeListerSteps.{wrote-as}
+use Rattle.handout.proofs.OpenListings.{plug-tokens, plug-rules, listed-size}
+use Rattle.handout.proofs.TreeListerSteps.{known-context, wrote-as}
 
 -- a tree's listing in three parts
 module _ {g : Grammar} {r : ℕ} {t : Tree g (g .start)} (z : TreeOf plain g r t) where
@@ -32,85 +35,143 @@ module _ {g : Grammar} {r : ℕ} {t : Tree g (g .start)} (z : TreeOf plain g r t
   rules-are : derivation t ≡ rulesOn before (z .above) ++ (derivation (node r (z .rule) (z .under)) ++ rulesOn after (z .above))
   rules-are = ap derivation (z .whole) ∙ plug-rules (z .above) (node r (z .rule) (z .under))
 
-module _ {words starts table : List ℕ} {n start r : ℕ} (ready : TreeReady words starts table n start r) where
-  pub target-low : r < 256
-  target-low = number-low (ready .known) (ready .number)
+-- listed into no room, it is counted
+pub counted : {words starts table a b x y : List ℕ} {n start r : ℕ} {so : Lengths} →
+    TreeWritten words starts table n start r a b x y so → TreeCounted words starts table n start r so
+counted writes = λ g known s t tree.
+    let wrote = writes g known s t tree in
+    let e = wrote .more-tokens in
+    let f = wrote .more-rules in
+    (omega arith, omega arith)
 
+module _ {words starts table : List ℕ} {n start r : ℕ} (ready : TreeReady words starts table n start r) where
   the-tree : (t : Tree (ready .g) (ready .g .start)) × TreeOf plain (ready .g) r t
   the-tree =
       let ok = ready .accepted in
       tree-of-exists plain (ready .g) (in-bounds words (ready .known .view .is)) (ok .trees) (ok .reached) r (ready .number)
 
-  tree-fits : length (sentence (the-tree .0)) + length (derivation (the-tree .0)) ≤ 4096
-  tree-fits =
-      let f = ready .accepted .fit r (ready .number) in
-      omega (arith, size-is-length (the-tree .0), total-unique (tree-of-total plain (the-tree .1)) (f .is), f .within)
+  abbrev total : ℕ
+  total = getD table (5 * n + r) 0
 
-  -- each side of the left side fits
-  side-fits : (length (tokensOn before (the-tree .1 .above)) + length (rulesOn before (the-tree .1 .above)) ≤ 4096)
-      × (length (tokensOn after (the-tree .1 .above)) + length (rulesOn after (the-tree .1 .above)) ≤ 4096)
-  side-fits =
+  -- the total stands where the code reads it
+  total-stands : total ≡ getD table (5 * ready .g .N + r) 0
+  total-stands = ap (λ (k : ℕ). getD table (5 * k + r) 0) (ready .known .view .nonterminals)
+
+  tree-total : length (sentence (the-tree .0)) + length (derivation (the-tree .0)) ≡ total
+  tree-total =
+      let is = total-unique (tree-of-total plain (the-tree .1)) (ready .known .tabled .totals r (ready .number)) in
+      omega (arith, size-is-length (the-tree .0), is, total-front (ready .g) table r (ready .number), total-stands)
+
+  -- the three parts together
+  parts : length (tokensOn before (the-tree .1 .above)) + length (rulesOn before (the-tree .1 .above))
+      + (1 + sizesBy n table (rightOf words starts r))
+      + (length (tokensOn after (the-tree .1 .above)) + length (rulesOn after (the-tree .1 .above))) ≡ total
+  parts =
       let z = the-tree .1 in
       let us = sentences (z .under) in
       let vs = derivation (node r (z .rule) (z .under)) in
+      let under : SymbolsListed (ready .g) (z .w) us (derivations (z .under)) =
+      record { forest = z .under; chosen = z .opens; tokens = refl; rules = refl } in
+      let size = ap (sizesBy n table) (viewed-right (ready .known .view) (z .rule)) ∙ listed-size (ready .known) under in
       let tokens =
       ap length (tokens-are z) ∙ length-append (tokensOn before (z .above)) (us ++ tokensOn after (z .above)) in
       let rules = ap length (rules-are z) ∙ length-append (rulesOn before (z .above)) (vs ++ rulesOn after (z .above)) in
       let tokens′ = length-append us (tokensOn after (z .above)) in
       let rules′ = length-append vs (rulesOn after (z .above)) in
-      (omega (arith, tree-fits, tokens, rules, tokens′, rules′), omega (arith, tree-fits, tokens, rules, tokens′, rules′))
+      omega (arith, tree-total, size, tokens, rules, tokens′, rules′)
 
   module _ {A : ℕ} (left : A ≡ getD words (getD starts r 0) 0) where
     is-left : A ≡ the-tree .1 .A
     is-left = left ∙ viewed-left (ready .known .view) (the-tree .1 .rule)
 
-    pub first-ready : SideReady before words starts table n start A none-so-far
+    -- the context of the left side is a part of the total
+    context-within : entry table A 2 ≤ total
+    context-within =
+        let t = ready .known .tabled .totals r (ready .number) in
+        let rule = t .rule .rule in
+        let same = left ∙ viewed-left (ready .known .view) rule in
+        let outer = context-unique (known-context (ready .known) (t .A) (rule .left)) (t .context) in
+        let here = ap (λ (B : ℕ). entry table B 2) same in
+        omega (arith, here, outer, t .is, total-front (ready .g) table r (ready .number), total-stands)
+
+    first-ready : SideReady before words starts table n start A none-so-far total
     first-ready = rw is-left (record {
       g = ready .g;
       known = ready .known;
       starts-at = ready .starts-at;
       above = the-tree .1 .above;
       follows = the-tree .1 .follows;
-      room = omega (arith, side-fits .0);
+      within = omega (arith, parts);
     })
 
-    module _ {a b x y : List ℕ} {p : Lengths}
-        (first : SideWritten before words starts table n start A a b x y none-so-far p) where
-      so-far : Wrote (tokensOn before (the-tree .1 .above)) (rulesOn before (the-tree .1 .above)) a b x y none-so-far p
-      so-far = (rw is-left at first) (ready .g) (ready .known) (ready .starts-at) (the-tree .1 .above) (the-tree .1 .follows)
-
-      few : p .tokens + p .rules ≤ 4096
-      few = omega (arith, side-fits .0, so-far .more-tokens, so-far .more-rules)
-
-      pub target-ready : RuleReady words starts table n r p
-      target-ready = record {
-        g = ready .g;
-        known = ready .known;
-        number = ready .number;
-        room = omega (arith, few, rule-fits (ready .known) (ready .accepted .fit) (ready .number));
+    module _ {path ats lefts : List ℕ} (room : TreeRoom table n r path ats lefts) where
+      pub climb-ready : ClimbReady words starts table start A path
+      climb-ready = record {
+        n = n;
+        g = first-ready .g;
+        known = first-ready .known;
+        starts-at = first-ready .starts-at;
+        above = first-ready .above;
+        follows = first-ready .follows;
+        short = omega (arith, context-within, room .short);
       }
 
-      module _ {c v : List ℕ} {q : Lengths} (rule : RuleWritten words starts table n r b c y v p q) where
-        pub last-ready : SideReady after words starts table n start A q
-        last-ready = rw is-left (record {
-          g = ready .g;
-          known = ready .known;
-          starts-at = ready .starts-at;
-          above = the-tree .1 .above;
-          follows = the-tree .1 .follows;
-          room = omega (arith, few, side-fits .1, rule .counted, rule-fits (ready .known) (ready .accepted .fit) (ready .number));
-        })
+      module _ {path′ : List ℕ} {steps : ℕ} (way : PathOf words starts table start A path′ steps) where
+        pub way-before : WayReady before words starts table n path′ steps none-so-far ats lefts
+        way-before = record { start = start; A = A; noted = way; most = total; room = room .room; ready = first-ready }
 
-        -- TREE: the sentence and the derivation of the rule's tree are written
-        pub tree-of-written : {d u : List ℕ} {s : Lengths} → SideWritten after words starts table n start A c d v u q s →
-            TreeWritten words starts table n start r a d x u s
-        tree-of-written last =
-            λ g known begin t z.
-            let e = left ∙ viewed-left (known .view) (z .rule) in
-            let head = (rw e at first) g known begin (z .above) (z .follows) in
-            let tail = (rw e at last) g known begin (z .above) (z .follows) in
-            let middle = rule-written known rule (z .rule) (z .under) (z .opens) in
-            wrote-as (sym (tokens-are z)) (sym (rules-are z)) (and-then head (and-then middle tail))
+        module _ {a b x y : List ℕ} {p : Lengths}
+            (first : WayWritten before words starts table n path′ steps a b x y none-so-far p) where
+          so-far : Wrote (tokensOn before (the-tree .1 .above)) (rulesOn before (the-tree .1 .above)) a b x y none-so-far p
+          so-far =
+              let here : SideWritten before words starts table n start (the-tree .1 .A) a b x y none-so-far p =
+              rw is-left at (first start A way) in
+              here (ready .g) (ready .known) (ready .starts-at) (the-tree .1 .above) (the-tree .1 .follows)
+
+          pub target-ready : {ats₁ lefts₁ : List ℕ} {size : ℕ} → size ≡ total → length ats₁ ≡ length ats →
+              length lefts₁ ≡ length lefts → RuleReady words starts table n r size p ats₁ lefts₁
+          target-ready s e f = record {
+            g = ready .g;
+            known = ready .known;
+            number = ready .number;
+            most = total;
+            room = room-kept (room .room) e f;
+            within = omega (arith, parts, so-far .more-tokens, so-far .more-rules);
+            sized = omega (arith, parts);
+          }
+
+          module _ {c v : List ℕ} {q : Lengths} (rule : RuleWritten words starts table n r b c y v p q) where
+            last-ready : SideReady after words starts table n start A q total
+            last-ready = rw is-left (record {
+              g = ready .g;
+              known = ready .known;
+              starts-at = ready .starts-at;
+              above = the-tree .1 .above;
+              follows = the-tree .1 .follows;
+              within = omega (arith, parts, so-far .more-tokens, so-far .more-rules, rule .counted);
+            })
+
+            pub way-after : {ats₁ lefts₁ : List ℕ} → length ats₁ ≡ length ats → length lefts₁ ≡ length lefts →
+                WayReady after words starts table n path′ steps q ats₁ lefts₁
+            way-after e f = record {
+              start = start;
+              A = A;
+              noted = way;
+              most = total;
+              room = room-kept (room .room) e f;
+              ready = last-ready;
+            }
+
+            -- TREE: the sentence and the derivation of the rule's tree are written
+            pub tree-of-written : {d u : List ℕ} {s : Lengths} → WayWritten after words starts table n path′ steps c d v u q s →
+                TreeWritten words starts table n start r a d x u s
+            tree-of-written last =
+                λ g known begin t z.
+                let e = left ∙ viewed-left (known .view) (z .rule) in
+                let head = (rw e at (first start A way)) g known begin (z .above) (z .follows) in
+                let tail = (rw e at (last start A way)) g known begin (z .above) (z .follows) in
+                let middle = rule-written known rule (z .rule) (z .under) (z .opens) in
+                wrote-as (sym (tokens-are z)) (sym (rules-are z)) (and-then head (and-then middle tail))
 
   -- and there is such a tree
   pub some-tree-written : {a b x y : List ℕ} {s : Lengths} → TreeWritten words starts table n start r a b x y s →

@@ -1,25 +1,36 @@
 -- For the private functions of handed: what is known where rows 4 to 9 are passed and a rule is unused. Nobody has to believe this
 -- file; the promises do not cite it. Assumes nothing.
-use Prim.Native.Nat.{ℕ, _≤_}
+use Prim.Native.Nat.{ℕ, _+_, _*_, _≤_}
 use mathlib.Core.Path.{_≡_}
 use mathlib.Core.List.{List}
-use lib.ListN.{length}
-use Rattle.grammar.specs.Words.{Grammar, R, layout, reads}
+use lib.ListN.{length, getD}
+use Rattle.grammar.specs.Words.{Grammar, R}
 use Rattle.grammar.specs.Refusals.{Accepted, Lowest}
-use Rattle.tables.specs.Table.{HasTable}
 use Rattle.handout.specs.Next.{Unused}
 use Rattle.handout.specs.Listing.{Known}
 
-pub record Asked (words table marks : List ℕ) (r : ℕ) : Type 0 where
+-- rows 4 to 8 are passed: the words are a grammar's, its rules stand at these indexes and are so many, and the table is its own
+pub record Tabled (words starts table : List ℕ) (rules : ℕ) : Type 0 where
   pub g : Grammar
-  pub grammar : layout words ≡ reads g
   pub accepted : Accepted g
-  pub tabled : HasTable g table
+  pub known : Known words starts table (g .N) g
+  pub all-rules : rules ≡ R g
+
+-- and so is 9, and a rule is unused
+pub record Asked (words starts table marks : List ℕ) (r : ℕ) : Type 0 where
+  pub g : Grammar
+  pub accepted : Accepted g
+  pub known : Known words starts table (g .N) g
   pub marked : R g ≤ length marks
   pub target : Lowest (Unused g marks) r
 
--- and what the lister must know besides: n, the start and the rules' starts are the grammar's
+-- and n and the start are the grammar's
 pub record Prepared (words table marks starts : List ℕ) (n start r : ℕ) : Type 0 where
-  pub asked : Asked words table marks r
-  pub known : Known words starts table n (asked .g)
+  pub asked : Asked words starts table marks r
+  pub nonterminals : n ≡ asked .g .N
   pub starts-at : start ≡ asked .g .start
+
+-- and total is the rule's
+pub record Totalled (words table marks starts : List ℕ) (n start r total : ℕ) : Type 0 where
+  pub prepared : Prepared words table marks starts n start r
+  pub is : total ≡ getD table (5 * n + r) 0

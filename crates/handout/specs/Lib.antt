@@ -3,6 +3,7 @@ pub mod Next
 pub mod Night
 pub mod Listing
 pub mod MarkSteps
+pub mod Forms
 pub mod ReplaySteps
 pub mod TreeListing
 pub mod Asked

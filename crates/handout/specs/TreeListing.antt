@@ -2,28 +2,58 @@
 -- write. Document 01: "The tree of rule r follows the context choices from the start to r's left side, puts r there, and opens
 -- every other nonterminal by its chosen rule."
 -- Nobody has to believe this file; the promises do not cite it. Assumes nothing.
-use Prim.Native.Nat.{ℕ, _+_, _≤_, _<_}
+use Prim.Native.Nat.{ℕ, zero, suc, _+_, _*_, _≤_, _<_}
 use mathlib.Core.Path.{_≡_}
 use mathlib.Core.List.{List, [], _∷_, _++_}
-use lib.ListN.{length}
+use lib.ListN.{length, getD, take, drop}
 use Rattle.grammar.specs.Words.{Grammar, R}
 use Rattle.grammar.specs.Tree.{Tree, Gap, here, past-leaf, past-child, Open, root, down}
 use Rattle.grammar.specs.Tree.{sentence, sentences, derivation, derivations}
 use Rattle.grammar.specs.Measure.{plain}
 use Rattle.grammar.specs.Least.{ChosenOpen, TreeOf}
 use Rattle.grammar.specs.Refusals.{Accepted}
+use Rattle.tables.specs.Table.{entry}
 use Rattle.handout.specs.declared.lister.Lengths.{Lengths}
-use Rattle.handout.specs.Listing.{Known, sizesBy, SymbolsListed, Wrote, Written}
+use Rattle.handout.specs.Listing.{Known, sizesBy, rightOf, Room, RuleListed, Wrote, Written}
 
--- some symbols can be listed, and are
-pub record SymbolsReady (words starts table : List ℕ) (n : ℕ) (w : List ℕ) (past : Lengths) : Type 0 where
+-- what is beside A in its context rule, of such a size, can be listed
+pub record BesideReady (words starts table : List ℕ) (n A size : ℕ) (past : Lengths) (ats lefts : List ℕ) : Type 0 where
   pub g : Grammar
   pub known : Known words starts table n g
-  pub room : past .tokens + past .rules + sizesBy n table w ≤ 65536
+  pub leaf : A < n
+  pub number : entry table A 3 < R g
+  pub place : entry table A 4 < length (rightOf words starts (entry table A 3))
+  pub most : ℕ
+  pub room : Room most ats lefts
+  pub within : past .tokens + past .rules + size ≤ most
 
-abbrev pub SymbolsWritten : List ℕ → List ℕ → List ℕ → ℕ → List ℕ → List ℕ → List ℕ → List ℕ → List ℕ → Lengths → Lengths → Type 0
-SymbolsWritten words starts table n w tokens tokens′ rules rules′ past so =
-    Written words starts table n (λ g. SymbolsListed g w) (sizesBy n table w) tokens tokens′ rules rules′ past so
+-- the symbols before A's place in its context rule, and those after it
+abbrev pub frontOf : List ℕ → List ℕ → List ℕ → ℕ → List ℕ
+frontOf words starts table A = take (entry table A 4) (rightOf words starts (entry table A 3))
+
+abbrev pub backOf : List ℕ → List ℕ → List ℕ → ℕ → List ℕ
+backOf words starts table A = drop (suc (entry table A 4)) (rightOf words starts (entry table A 3))
+
+-- the number of A's context rule and the symbols before the place are written
+abbrev pub FrontWritten : List ℕ → List ℕ → List ℕ → ℕ → ℕ → List ℕ → List ℕ → List ℕ → List ℕ → Lengths → Lengths → Type 0
+FrontWritten words starts table n A tokens tokens′ rules rules′ past so =
+    Written words starts table n (λ g. RuleListed g (entry table A 3) (frontOf words starts table A))
+    (1 + sizesBy n table (frontOf words starts table A)) tokens tokens′ rules rules′ past so
+
+-- the left side of A's context rule, and the nonterminal so many steps up
+abbrev pub upper : List ℕ → List ℕ → List ℕ → ℕ → ℕ
+upper words starts table A = getD words (getD starts (entry table A 3) 0) 0
+
+unfoldable pub climbed : List ℕ → List ℕ → List ℕ → ℕ → ℕ → ℕ
+climbed words starts table A zero = A
+climbed words starts table A (suc i) = upper words starts table (climbed words starts table A i)
+
+-- the path holds the nonterminals from A up to the start, which is so many steps up
+pub record PathOf (words starts table : List ℕ) (start A : ℕ) (path : List ℕ) (steps : ℕ) : Type 0 where
+  pub short : steps ≤ length path
+  pub noted : (i : ℕ) → i < steps → getD path i 0 ≡ climbed words starts table A i
+  pub other : (i : ℕ) → i < steps → ¬ (climbed words starts table A i ≡ start)
+  pub ends : climbed words starts table A steps ≡ start
 
 -- the two sides of an open leaf
 pub data Side : Type 0 where
@@ -60,14 +90,34 @@ module _ {g : Grammar} where
   rulesOn after root = []
   rulesOn after (down k r x a) = gapRules after a ++ rulesOn after x
 
--- the context choices lead from the start to A, and there is room to count what lies on that side
-pub record SideReady (side : Side) (words starts table : List ℕ) (n start A : ℕ) (past : Lengths) : Type 0 where
+-- the context choices lead from the start to A, and there is room for what lies on that side
+pub record SideReady (side : Side) (words starts table : List ℕ) (n start A : ℕ) (past : Lengths) (most : ℕ) : Type 0 where
   pub g : Grammar
   pub known : Known words starts table n g
   pub starts-at : start ≡ g .start
   pub above : Open g A
   pub follows : ChosenOpen plain g above
-  pub room : past .tokens + past .rules + (length (tokensOn side above) + length (rulesOn side above)) ≤ 65536
+  pub within : past .tokens + past .rules + (length (tokensOn side above) + length (rulesOn side above)) ≤ most
+
+-- they lead so far, and the path has room for them
+pub record ClimbReady (words starts table : List ℕ) (start A : ℕ) (path : List ℕ) : Type 0 where
+  pub n : ℕ
+  pub g : Grammar
+  pub known : Known words starts table n g
+  pub starts-at : start ≡ g .start
+  pub above : Open g A
+  pub follows : ChosenOpen plain g above
+  pub short : entry table A 2 ≤ length path
+
+-- the path is noted, and what lies on that side of its lowest nonterminal can be listed
+pub record WayReady (side : Side) (words starts table : List ℕ) (n : ℕ) (path : List ℕ) (steps : ℕ) (past : Lengths)
+    (ats lefts : List ℕ) : Type 0 where
+  pub start : ℕ
+  pub A : ℕ
+  pub noted : PathOf words starts table start A path steps
+  pub most : ℕ
+  pub room : Room most ats lefts
+  pub ready : SideReady side words starts table n start A past most
 
 -- it is written, by whichever context choices
 abbrev pub SideWritten : Side → List ℕ → List ℕ → List ℕ → ℕ → ℕ → ℕ → List ℕ → List ℕ → List ℕ → List ℕ → Lengths → Lengths →
@@ -76,6 +126,13 @@ SideWritten side words starts table n start A tokens tokens′ rules rules′ pa
     (g : Grammar) → Known words starts table n g → start ≡ g .start → (above : Open g A) → ChosenOpen plain g above →
     Wrote (tokensOn side above) (rulesOn side above) tokens tokens′ rules rules′ past so
 
+-- whichever nonterminal the path leads up from
+abbrev pub WayWritten : Side → List ℕ → List ℕ → List ℕ → ℕ → List ℕ → ℕ → List ℕ → List ℕ → List ℕ → List ℕ → Lengths → Lengths →
+    Type 0
+WayWritten side words starts table n path steps tokens tokens′ rules rules′ past so =
+    (start A : ℕ) → PathOf words starts table start A path steps →
+    SideWritten side words starts table n start A tokens tokens′ rules rules′ past so
+
 -- the tree of a rule can be listed, and is
 pub record TreeReady (words starts table : List ℕ) (n start r : ℕ) : Type 0 where
   pub g : Grammar
@@ -83,6 +140,11 @@ pub record TreeReady (words starts table : List ℕ) (n start r : ℕ) : Type 0 
   pub starts-at : start ≡ g .start
   pub accepted : Accepted g
   pub number : r < R g
+
+-- path and stack have room for as many numbers as its total says
+pub record TreeRoom (table : List ℕ) (n r : ℕ) (path ats lefts : List ℕ) : Type 0 where
+  pub room : Room (getD table (5 * n + r) 0) ats lefts
+  pub short : getD table (5 * n + r) 0 ≤ length path
 
 abbrev pub none-so-far : Lengths
 none-so-far = record { tokens = 0; rules = 0 }

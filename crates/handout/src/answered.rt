@@ -1,16 +1,14 @@
 // What `replay` answers of a grammar and a list: 12, 11, 3, or the sentence. Tokens are kept aside until no refusal can come, and
 // how much room is cleared for that, and for the stack, goes by the list's length.
-ghost use Prim.Native.Nat.{ℕ, _≤_};
+ghost use Prim.Native.Nat.{_≤_};
 ghost use lib.ListN.{length};
 ghost use Rattle.grammar.specs.Words.{Grammar};
-ghost use Rattle.tables.specs.Rows.{Read};
 ghost use Rattle.grammar.proofs.RulesInView.{View};
 ghost use Rattle.handout.specs.Replay.{Replay};
 use crate::ReplayAnswer;
 use crate::cells::copy_front;
 use crate::replayed::Outcome;
 use crate::replayed::run;
-use grammar::rules;
 
 // The most numbers that a replayed list has.
 const MOST_NUMBERS: usize = 4096;
@@ -18,17 +16,18 @@ const MOST_NUMBERS: usize = 4096;
 // Shorter lists, for which less room is cleared.
 const FEW_NUMBERS: usize = 64;
 
-const SOME_NUMBERS: usize = 512;
+const SOME_NUMBERS: usize = 256;
 
 // 12, and what follows.
 pub fn of_grammar(
     words: &[u16],
+    starts: &[u16; 256],
     n: usize,
     rules: usize,
     list: &[u16],
     sentence: &mut [u16],
 ) -> ReplayAnswer
-    requires { ⌜ ((start : ℕ) × Read (now words) n start rules) ⌝ }
+    requires { ⌜ ((g : Grammar) × View (now words) (now starts) n rules g) ⌝ }
     ensures { λ r. ⌜ Replay (now (words .entry)) (now (list .entry)) (now (sentence .entry)) r (now (sentence .exit)) ⌝ }
 {
     if MOST_NUMBERS < list.len() {
@@ -37,21 +36,19 @@ pub fn of_grammar(
             place: MOST_NUMBERS,
         };
     }
-    let mut starts = [0usize; 256];
-    rules::find(words, &mut starts);
     if list.len() <= FEW_NUMBERS {
-        return of_few(words, &starts, n, rules, list, sentence);
+        return of_few(words, starts, n, rules, list, sentence);
     }
     if list.len() <= SOME_NUMBERS {
-        return of_some(words, &starts, n, rules, list, sentence);
+        return of_some(words, starts, n, rules, list, sentence);
     }
-    of_many(words, &starts, n, rules, list, sentence)
+    of_many(words, starts, n, rules, list, sentence)
 }
 
 // A short list, with little room to clear.
 fn of_few(
     words: &[u16],
-    starts: &[usize; 256],
+    starts: &[u16; 256],
     n: usize,
     rules: usize,
     list: &[u16],
@@ -62,7 +59,7 @@ fn of_few(
 {
     let mut ats = [0u16; FEW_NUMBERS];
     let mut lefts = [0u16; FEW_NUMBERS];
-    let mut aside = [0u16; 256];
+    let mut aside = [0u16; 64];
     of_list(
         words,
         starts,
@@ -79,13 +76,13 @@ fn of_few(
 // A longer one, of which the sentence can be long.
 fn of_some(
     words: &[u16],
-    starts: &[usize; 256],
+    starts: &[u16; 256],
     n: usize,
     rules: usize,
     list: &[u16],
     sentence: &mut [u16],
 ) -> ReplayAnswer
-    requires { ⌜ ((g : Grammar) × View (now words) (now starts) n rules g) × (length (now list) ≤ 512) ⌝ }
+    requires { ⌜ ((g : Grammar) × View (now words) (now starts) n rules g) × (length (now list) ≤ 256) ⌝ }
     ensures { λ r. ⌜ Replay (now (words .entry)) (now (list .entry)) (now (sentence .entry)) r (now (sentence .exit)) ⌝ }
 {
     let mut ats = [0u16; SOME_NUMBERS];
@@ -107,7 +104,7 @@ fn of_some(
 // Any list.
 fn of_many(
     words: &[u16],
-    starts: &[usize; 256],
+    starts: &[u16; 256],
     n: usize,
     rules: usize,
     list: &[u16],
@@ -136,7 +133,7 @@ fn of_many(
 // a second run.
 fn of_list(
     words: &[u16],
-    starts: &[usize; 256],
+    starts: &[u16; 256],
     n: usize,
     rules: usize,
     list: &[u16],

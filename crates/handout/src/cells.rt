@@ -1,16 +1,9 @@
-// Words of lent memory, read or written at an index where there is such an index, or copied; and a number as a word, and back.
+// Words of lent memory, written at an index where there is such an index, or copied; and a number as a word, and back.
 // Assumes nothing.
 ghost use mathlib.Core.Path.{_≡_};
 ghost use Prim.Native.Nat.{_≤_};
-ghost use lib.ListN.{length, getD, set, take};
+ghost use lib.ListN.{length, set, take};
 ghost use Rattle.answers.specs.Buffers.{over};
-
-// The word at index i, and 0 past the end.
-pub fn item(words: &[u16], i: usize) -> u16
-    ensures { λ r. ⌜ r ≡ getD (now (words .entry)) i 0 ⌝ }
-{
-    if i < words.len() { words[i] } else { 0 }
-}
 
 // Writes v at index i; past the end nothing.
 pub fn put(part: &mut [u16], i: usize, v: u16)

@@ -2,6 +2,7 @@
 // from clear marks on is specs/Night.
 mod answered;
 mod cells;
+mod forms;
 mod handed;
 mod lister;
 mod marks;
@@ -47,13 +48,22 @@ pub fn next(
         (record { marks = now (marks .entry); tokens = now (sentence .entry); rules = now (derivation .entry) }) r
         (record { marks = now (marks .exit); tokens = now (sentence .exit); rules = now (derivation .exit) }) ⌝ }
 {
-    match tables::test(words, table) {
-        TableTest::Broken { place } => NextAnswer::Refused {
-            number: answers::BROKEN_LAYOUT,
-            place,
+    let mut starts = [0u16; 256];
+    match tables::test(words, table, &mut starts) {
+        TableTest::Refused { number, place } => NextAnswer::Refused { number, place },
+        TableTest::NotIts => NextAnswer::Refused {
+            number: answers::NOT_ITS_TABLE,
+            place: 0,
         },
-        TableTest::NotIts => handed::without_table(words),
-        TableTest::Its => handed::with_table(words, table, marks, sentence, derivation),
+        TableTest::Its { rules } => handed::with_table(
+            words,
+            &starts,
+            rules,
+            table,
+            marks,
+            sentence,
+            derivation,
+        ),
     }
 }
 
@@ -62,7 +72,8 @@ pub fn next(
 pub fn replay(words: &[u16], list: &[u16], sentence: &mut [u16]) -> ReplayAnswer
     ensures { λ r. ⌜ Replay (now (words .entry)) (now (list .entry)) (now (sentence .entry)) r (now (sentence .exit)) ⌝ }
 {
-    match layout::judge(words) {
+    let mut starts = [0u16; 256];
+    match layout::read(words, &mut starts) {
         LayoutAnswer::Fault { place } => ReplayAnswer::Refused {
             number: answers::BROKEN_LAYOUT,
             place,
@@ -72,6 +83,6 @@ pub fn replay(words: &[u16], list: &[u16], sentence: &mut [u16]) -> ReplayAnswer
             terminals: _,
             start: _,
             rules,
-        } => answered::of_grammar(words, nonterminals, rules, list, sentence),
+        } => answered::of_grammar(words, &starts, nonterminals, rules, list, sentence),
     }
 }

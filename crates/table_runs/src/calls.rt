@@ -27,8 +27,13 @@ fn lend(words: &[u16], count: usize, table: &mut [u16], room: usize) {
 fn run(words: &[u16], table: &mut [u16]) {
     let answer = tables::tables(words, table);
     print_answer(answer, table);
-    print_test(tables::test(words, table));
+    print_test(test(words, table));
     print_table(answer, words, table);
+}
+
+fn test(words: &[u16], table: &[u16]) -> TableTest {
+    let mut starts = [0u16; 256];
+    tables::test(words, table, &mut starts)
 }
 
 // The answer, and whether the table is kept past what was written.
@@ -70,10 +75,14 @@ fn untouched(table: &[u16], from: usize) -> bool {
 
 fn print_test(answer: TableTest) {
     match answer {
-        TableTest::Its => print::text(b" its"),
+        TableTest::Its { rules } => {
+            print::text(b" its");
+            print::number(rules);
+        }
         TableTest::NotIts => print::text(b" not its"),
-        TableTest::Broken { place } => {
-            print::text(b" broken");
+        TableTest::Refused { number, place } => {
+            print::text(b" refused");
+            print::number(number as usize);
             print::number(place);
         }
     }
@@ -114,7 +123,7 @@ fn fails_changed(words: &[u16], table: &mut [u16], at: usize) -> bool {
     }
     let old = table[at];
     table[at] = std::num::wrapping_add_u16(old, 1);
-    let answer = tables::test(words, table);
+    let answer = test(words, table);
     table[at] = old;
     match answer {
         TableTest::NotIts => true,

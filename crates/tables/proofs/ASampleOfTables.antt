@@ -12,7 +12,7 @@ use Rattle.answers.specs.Buffers.{over}
 use Rattle.grammar.specs.Words.{Grammar, _⟶_, RuleAt, layout, lefts, reads}
 use Rattle.grammar.specs.Tree.{Tree, node, nil}
 use Rattle.grammar.specs.Derivation.{none}
-use Rattle.grammar.specs.Refusals.{NoTree, Unreached, AllTrees, AllReached, AllFit}
+use Rattle.grammar.specs.Refusals.{NoTree, Unreached, AllTrees, AllReached, AllFit, Accepted}
 use Rattle.grammar.proofs.Dead.{closed-reached, open-reached}
 use Rattle.grammar.proofs.LayoutExact.{in-bounds}
 use Rattle.grammar.proofs.Certificate.{symbolSize, wordSize}
@@ -66,11 +66,14 @@ pub D-too-long : Tables D-words (replicate 20 9) (refused (too-short 21)) (repli
 D-too-long = row-3 D-reads D-trees D-reached D-fits (omega arith)
 
 -- and `test` takes what was written, and nothing shorter
-pub D-table-its : Tested D-words (D-table ++ 9 ∷ []) Its
-D-table-its = its D-reads (record { trees = D-trees; reached = D-reached; fit = D-fits }) D-has-table
+D-accepted : Accepted D
+D-accepted = record { trees = D-trees; reached = D-reached; fit = D-fits }
+
+pub D-table-its : Tested D-words (D-table ++ 9 ∷ []) (Its 6)
+D-table-its = its D-reads D-accepted D-has-table
 
 pub twenty-not-its : Tested D-words (replicate 20 9) NotIts
-twenty-not-its = not-its D-reads (λ z. let long = z .1 .long in omega arith)
+twenty-not-its = not-its D-reads D-accepted (λ z. let long = z .long in omega arith)
 
 -- "words 3 4: 4 at 2"; "zero words; tables of them: 4 at 0"
 pub breaks-at-2 : Tables (3 ∷ 4 ∷ []) [] (refused (broken-layout 2)) []

@@ -1,15 +1,17 @@
 -- What a rule's turn does to the contexts, over leasts that are done. It lowers a figure only to the cut of what some open
 -- tree costs: the open tree that the left side's figure stood for when the turn began, the rule, and least trees of the
 -- other symbols. That tree is there even where the left side stands among its own symbols and its figure falls on the way.
--- Nothing is below 0, so the start's figure stays. Where the turn lowers none it changes nothing, and the rule is quiet.
--- Assumes nothing.
-use mathlib.Core.Path.{_≡_, refl, _∙_}
-use mathlib.Core.Bool.{Bool}
+-- Nothing is below 0, so the start's figure stays. A rule that is tried lowers nothing more until the figure of its left side
+-- falls, so one that was seen with that figure may be passed over. Where the turn lowers none it changes no context, and the
+-- rule is quiet. Assumes nothing.
+use mathlib.Core.Path.{_≡_, refl, sym, _∙_}
 use mathlib.Core.Logic.{inl, inr}
 use mathlib.Core.List.{List, _∷_}
 use Prim.Native.Nat.{ℕ, zero, suc, _+_, _-_, _≤_, _<_}
 use native.Mathlib.Omega.{arith}
+use native.Mathlib.Decide.{ℕ-discrete}
 use lib.ListN.{length, getD}
+use lib.Seq.{getD-set-same, getD-set-other}
 use Rattle.grammar.specs.Words.{Grammar, RuleAt}
 use Rattle.grammar.specs.Measure.{plain}
 use Rattle.grammar.specs.Rules.{rightAt}
@@ -18,15 +20,14 @@ use Rattle.grammar.proofs.Certificate.{wordSize}
 use Rattle.grammar.proofs.ContextCertificate.{Holds, othersSize}
 use Rattle.grammar.proofs.CappedContexts.{OfOpen}
 use Rattle.grammar.proofs.AtRest.{place-figure}
-use Rattle.tables.specs.Figures.{Turn, figure, Has, capped, Lowered, fell, stayed, turn, LeastsDone}
-use Rattle.tables.specs.Figures.{ContextsSound, ContextQuiet}
-use Rattle.tables.specs.ContextSteps.{PlaceStep, skipped, tried, PlacesStep, no-symbol, symbol, ContextStep, without, with}
-use Rattle.tables.specs.ContextSteps.{Known}
+use Rattle.tables.specs.Figures.{figure, Has, capped, Lowered, fell, stayed, LeastsDone, ContextsSound, ContextQuiet}
+use Rattle.tables.specs.ContextSteps.{PlaceStep, skipped, tried, PlacesStep, no-symbol, symbol}
+use Rattle.tables.specs.ContextSteps.{ContextStep, as-seen, unseen, Known, Tried, Stands, SeenTurn}
 use Rattle.tables.proofs.SizeApart.{size-apart}
 use Rattle.tables.proofs.DoneLeasts.{done-certificate}
-use Rattle.tables.proofs.ContextsFall.{context-few, context-fallen, context-length}
+use Rattle.tables.proofs.ContextsFall.{place-length, places-no-higher, context-no-higher}
+use Rattle.tables.proofs.FiguresHaveRoom.{room-for-all}
 use Rattle.tables.proofs.FiguresKept.{lowered-no-higher, lowered-known}
-use Rattle.tables.proofs.RoundSoFar.{SoFar}
 use Rattle.grammar.proofs.RulesInView.{View, viewed-rule, viewed-left, viewed-right, viewed-room}
 
 abbrev OpenCut : Grammar → ℕ → ℕ → Type 0
@@ -56,33 +57,42 @@ module _ (g : Grammar) (vs : List ℕ) (whole : ℕ) where
   places-sound (symbol {s} p ps) opens sound =
       places-sound ps (λ i A h l. opens (suc i) A h l) (place-sound p (λ l. opens 0 s refl l) sound)
 
-  -- a figure that has a place is not above what A would be lowered to
+  -- A is not above what it is lowered to
   abbrev Low : ℕ → List ℕ → Type 0
-  Low A us = A < g .N → figure vs A ≤ whole → A < length us → figure us A ≤ capped (whole - figure vs A)
+  Low A us = A < g .N → figure vs A ≤ whole → figure us A ≤ capped (whole - figure vs A)
 
   abbrev AllLow : List ℕ → List ℕ → Type 0
   AllLow w us = (i A : ℕ) → Holds w i A → Low A us
 
-  place-still : {s f : ℕ} {us us′ : List ℕ} → PlaceStep (g .N) whole vs s us us′ f → f ≡ 0 → (us′ ≡ us) × Low s us
-  place-still (skipped (inl h)) e = (refl, λ l le room. absurd (omega arith))
-  place-still (skipped (inr h)) e = (refl, λ l le room. absurd (omega arith))
-  place-still (tried l le (fell h m)) e = absurd (omega arith)
-  place-still (tried l le (stayed h)) e = (refl, λ m k room. h room)
+  place-low : {s f : ℕ} {us us′ : List ℕ} → PlaceStep (g .N) whole vs s us us′ f → g .N ≤ length us → Low s us′
+  place-low (skipped (inl h)) room l le = absurd (omega arith)
+  place-low (skipped (inr h)) room l le = absurd (omega arith)
+  place-low {s} {us = us} (tried l le (fell h m)) room _ _ =
+      omega (arith, getD-set-same us s (capped (whole - figure vs s)) 65535 h)
+  place-low (tried l le (stayed h)) room _ _ = h (omega arith)
 
   low-more : (s : ℕ) (w us : List ℕ) → Low s us → AllLow w us → AllLow (s ∷ w) us
   low-more s w us low all zero A h = let e : s ≡ A = cc in rw e at low
   low-more s w us low all (suc i) A h = all i A h
 
-  places-still : {w us us′ : List ℕ} {f : ℕ} → PlacesStep (g .N) whole vs w us us′ f → f ≡ 0 → (us′ ≡ us) × AllLow w us
-  places-still no-symbol e = (refl, λ i A h. absurd (let z : _≡_ {A = ℕ} 0 1 = cc in omega arith))
-  places-still (symbol {s} {w = w} {us = us} p ps) e =
-      let (e₁, low) = place-still p (omega arith) in
-      let (e₂, all) = places-still ps (omega arith) in
-      (e₂ ∙ e₁, low-more s w us low (rw e₁ at all))
+  places-low : {w us us′ : List ℕ} {f : ℕ} → PlacesStep (g .N) whole vs w us us′ f → g .N ≤ length us → AllLow w us′
+  places-low no-symbol room = λ i A h. absurd (let z : _≡_ {A = ℕ} 0 1 = cc in omega arith)
+  places-low (symbol {s} {w = w} {us″ = us″} p ps) room =
+      low-more s w us″ (λ l le. omega (arith, place-low p room l le, places-no-higher ps s))
+      (places-low ps (omega (arith, place-length p)))
+
+  place-still : {s f : ℕ} {us us′ : List ℕ} → PlaceStep (g .N) whole vs s us us′ f → f ≡ 0 → us′ ≡ us
+  place-still (skipped h) e = refl
+  place-still (tried l le (fell h m)) e = absurd (omega arith)
+  place-still (tried l le (stayed h)) e = refl
+
+  places-still : {w us us′ : List ℕ} {f : ℕ} → PlacesStep (g .N) whole vs w us us′ f → f ≡ 0 → us′ ≡ us
+  places-still no-symbol e = refl
+  places-still (symbol p ps) e = places-still ps (omega arith) ∙ place-still p (omega arith)
 
 -- a rule, its size by the leasts, and the contexts at its turn
-module _ {g : Grammar} {k B : ℕ} {w : List ℕ} (r : RuleAt g k B w) (vs us : List ℕ) {size : ℕ}
-    (is : size ≡ 1 + wordSize plain g (figure vs) w) where
+module _ {g : Grammar} {k B : ℕ} {w : List ℕ} (r : RuleAt g k B w) {vs us seen : List ℕ} {size : ℕ}
+    (is : size ≡ 1 + wordSize plain g (figure vs) w) (room : g .N ≤ length us) (stands : Stands g vs us seen) where
   -- the whole is at least the least of the symbol at a place, and this is what is left without it
   module _ (i A : ℕ) (h : Holds w i A) (l : A < g .N) where
     part-of-whole : figure vs A ≤ figure us B + size
@@ -91,30 +101,79 @@ module _ {g : Grammar} {k B : ℕ} {w : List ℕ} (r : RuleAt g k B w) (vs us : 
     left-of-whole : figure us B + size - figure vs A ≡ figure us B + (1 + othersSize plain g (figure vs) w i)
     left-of-whole = omega (arith, size-apart g (figure vs) w i A h l)
 
-  step-keeps : LeastsDone g vs → {us′ : List ℕ} {f : ℕ} → ContextStep (g .N) size vs B w us us′ f →
-      ContextsSound g us → ContextsSound g us′
-  step-keeps done (without n) sound = sound
-  step-keeps done (with has ps) sound = places-sound g vs (figure us B + size) ps opens sound
+  -- where the rule is tried its left side has a context: while it had none, none was seen
+  unseen-has : ¬ (figure us B ≡ figure seen k) → Has us B
+  unseen-has differs none = go (ℕ-discrete (figure seen k) 65535)
+    where
+      go : Dec (figure seen k ≡ 65535) → ⊥
+      go (yes e) = differs (none ∙ sym e)
+      go (no has) = omega (arith, stands .of-seen k B w r has .has)
+
+  -- no place is above what the rule, tried, lowers it to
+  tried-low : {us′ : List ℕ} {f : ℕ} → PlacesStep (g .N) (figure us B + size) vs w us us′ f → (i A : ℕ) → Holds w i A → A < g .N →
+      figure us′ A ≤ capped (figure us B + (1 + othersSize plain g (figure vs) w i))
+  tried-low ps i A h l =
+      rw (left-of-whole i A h l) at (places-low g vs (figure us B + size) ps room i A h l (part-of-whole i A h l))
+
+  step-sound : LeastsDone g vs → {us′ seen′ : List ℕ} {f : ℕ} → ContextStep (g .N) size vs k B w us seen us′ seen′ f →
+      ContextsSound g us′
+  step-sound done (as-seen e) = stands .sound
+  step-sound done (unseen long small differs ps) = places-sound g vs (figure us B + size) ps opens (stands .sound)
     where
       opens : Opens g vs (figure us B + size) w
       opens i A h l =
-          let y = sound .of-open B (r .left) has in
+          let y = stands .sound .of-open B (r .left) (unseen-has differs) in
           rw (left-of-whole i A h l) (place-figure plain (plainCap 4096) g (figure vs) (done-certificate done) i A r h l y)
 
-  step-still : g .N ≤ length us → {us′ : List ℕ} {f : ℕ} → ContextStep (g .N) size vs B w us us′ f → f ≡ 0 →
+  step-tried : {us′ seen′ : List ℕ} {f : ℕ} → ContextStep (g .N) size vs k B w us seen us′ seen′ f → Has seen′ k →
+      Tried g vs us′ B w (figure seen′ k)
+  step-tried (as-seen e) has = stands .of-seen k B w r has
+  step-tried (unseen long small differs ps) has =
+      rw (getD-set-same seen k (figure us B) 65535 long) (record {
+        has = omega (arith, places-no-higher ps B, below);
+        low = tried-low ps;
+      })
+    where
+      below : figure us B < 65535
+      below = go (ℕ-discrete (figure us B) 65535)
+        where
+          go : Dec (figure us B ≡ 65535) → figure us B < 65535
+          go (yes e) = absurd (unseen-has differs e)
+          go (no d) = omega arith
+
+  step-still : {us′ seen′ : List ℕ} {f : ℕ} → ContextStep (g .N) size vs k B w us seen us′ seen′ f → f ≡ 0 →
       (us′ ≡ us) × (Has us B → (i A : ℕ) → Holds w i A → A < g .N →
       figure us A ≤ capped (figure us B + (1 + othersSize plain g (figure vs) w i)))
-  step-still room (without n) e = (refl, λ has. absurd (n has))
-  step-still room (with has ps) e =
-      let (q, low) = places-still g vs (figure us B + size) ps e in
-      (q, λ has′ i A h l. rw (left-of-whole i A h l) at (low i A h l (part-of-whole i A h l) (omega arith)))
+  step-still (as-seen e) none = (refl, λ has. rw e (stands .of-seen k B w r (rw e at has) .low))
+  step-still (unseen long small differs ps) none =
+      let q = places-still g vs (figure us B + size) ps none in
+      (q, λ has i A h l. rw q at (tried-low ps i A h l))
+
+-- what is seen of the other rules stays, and they stay tried
+module _ {n size k B : ℕ} {vs w us us′ seen seen′ : List ℕ} {f : ℕ} (step : ContextStep n size vs k B w us seen us′ seen′ f) where
+  seen-of-others : (j : ℕ) → ¬ (j ≡ k) → figure seen′ j ≡ figure seen j
+  seen-of-others j d = go step
+    where
+      go : {ys ss : List ℕ} {m : ℕ} → ContextStep n size vs k B w us seen ys ss m → figure ss j ≡ figure seen j
+      go (as-seen e) = refl
+      go (unseen long small differs ps) = getD-set-other seen k j (figure us B) 65535 d
+
+  others-tried : {g : Grammar} → Stands g vs us seen → (j C : ℕ) (u : List ℕ) → ¬ (j ≡ k) → RuleAt g j C u → Has seen′ j →
+      Tried g vs us′ C u (figure seen′ j)
+  others-tried stands j C u d q has =
+      let same = seen-of-others j d in
+      let t = stands .of-seen j C u q (rw same at has) in
+      rw same (record {
+        has = omega (arith, context-no-higher step C, t .has);
+        low = λ i A h l. omega (arith, context-no-higher step A, t .low i A h l);
+      })
 
 -- A TURN, as the functions read the rule
 module _ {ws starts sizes vs : List ℕ} {n rules : ℕ} {g : Grammar} (known : Known ws starts n rules sizes vs g) where
-  context-turn : {k f : ℕ} {us us′ : List ℕ} → k < rules → 128 ≤ length us →
-      ContextStep n (getD sizes k 0) vs (getD ws (getD starts k 0) 0) (rightAt ws (getD starts k 0)) us us′ f →
-      Turn (ContextsSound g) (ContextQuiet g vs) k us us′ f
-  context-turn {k} {f} {us} {us′} h long step = record {
+  context-turn : {k f : ℕ} {us us′ seen seen′ : List ℕ} → k < rules → 128 ≤ length us →
+      ContextStep n (getD sizes k 0) vs k (getD ws (getD starts k 0) 0) (rightAt ws (getD starts k 0)) us seen us′ seen′ f →
+      SeenTurn g vs k us seen us′ seen′ f
+  context-turn {k} {f} {us} {us′} {seen} {seen′} h long step = record {
     keeps = keeps (viewed-rule view k h);
     still = still (viewed-rule view k h);
   }
@@ -125,38 +184,58 @@ module _ {ws starts sizes vs : List ℕ} {n rules : ℕ} {g : Grammar} (known : 
       room : g .N ≤ length us
       room = viewed-room view long
 
-      step-of : {B : ℕ} {w : List ℕ} → RuleAt g k B w → ContextStep (g .N) (getD sizes k 0) vs B w us us′ f
+      step-of : {B : ℕ} {w : List ℕ} → RuleAt g k B w → ContextStep (g .N) (getD sizes k 0) vs k B w us seen us′ seen′ f
       step-of r = rw (viewed-left view r, viewed-right view r, view .nonterminals) at step
 
-      keeps : (B : ℕ) × (w : List ℕ) × RuleAt g k B w → ContextsSound g us → ContextsSound g us′
-      keeps (B, w, r) = step-keeps r vs us (known .sized k B w r) (known .done) (step-of r)
+      of-seen : Stands g vs us seen → (j C : ℕ) (u : List ℕ) → RuleAt g j C u → Has seen′ j → Tried g vs us′ C u (figure seen′ j)
+      of-seen stands j C u q has = go (ℕ-discrete j k)
+        where
+          go : Dec (j ≡ k) → Tried g vs us′ C u (figure seen′ j)
+          go (yes e) =
+              let own : RuleAt g k C u = rw e at q in
+              rw e (step-tried own (known .sized k C u own) room stands (step-of own) (rw e at has))
+          go (no d) = others-tried step stands j C u d q has
 
-      still : (B : ℕ) × (w : List ℕ) × RuleAt g k B w → f ≡ 0 → (us′ ≡ us) × ContextQuiet g vs us k
-      still (B, w, r) e = (
-        step-still r vs us (known .sized k B w r) room (step-of r) e .0,
-        λ C u q. step-still q vs us (known .sized k C u q) room (step-of q) e .1,
+      keeps : (B : ℕ) × (w : List ℕ) × RuleAt g k B w → Stands g vs us seen → Stands g vs us′ seen′
+      keeps (B, w, r) stands = record {
+        sound = step-sound r (known .sized k B w r) room stands (known .done) (step-of r);
+        of-seen = of-seen stands;
+      }
+
+      still : (B : ℕ) × (w : List ℕ) × RuleAt g k B w → f ≡ 0 → Stands g vs us seen → (us′ ≡ us) × ContextQuiet g vs us k
+      still (B, w, r) e stands = (
+        step-still r (known .sized k B w r) room stands (step-of r) e .0,
+        λ C u q. step-still q (known .sized k C u q) room stands (step-of q) e .1,
       )
 
-  -- out of turn too
-  pub context-kept : {B k f size : ℕ} {w us us′ : List ℕ} → k < rules → 128 ≤ length us → B ≡ getD ws (getD starts k 0) 0 →
-      w ≡ rightAt ws (getD starts k 0) → size ≡ getD sizes k 0 → ContextStep n size vs B w us us′ f →
-      ContextsSound g us → ContextsSound g us′
-  context-kept h long e e′ e″ step = context-turn h long (rw (e, e′, e″) at step) .keeps
+  -- as the functions read it, a turn that lowers nothing, and one that others follow
+  module _ {B k at f size : ℕ} {w us us′ seen seen′ : List ℕ} (h : k < rules) (long : 128 ≤ length us)
+      (is : at ≡ getD starts k 0) (e : B ≡ getD ws at 0) (e′ : w ≡ rightAt ws at) (e″ : size ≡ getD sizes k 0)
+      (step : ContextStep n size vs k B w us seen us′ seen′ f) where
+    turn-of : SeenTurn g vs k us seen us′ seen′ f
+    turn-of = context-turn h long (rw (e, e′, e″, is) at step)
 
-  -- a turn that lowers nothing, and one that others follow
-  module _ {B k f size : ℕ} {w us us′ : List ℕ} (h : k < rules) (long : 128 ≤ length us) (e : B ≡ getD ws (getD starts k 0) 0)
-      (e′ : w ≡ rightAt ws (getD starts k 0)) (e″ : size ≡ getD sizes k 0) (step : ContextStep n size vs B w us us′ f) where
-    turn-of : Turn (ContextsSound g) (ContextQuiet g vs) k us us′ f
-    turn-of = context-turn h long (rw (e, e′, e″) at step)
+    -- out of turn too
+    pub context-kept : Stands g vs us seen → Stands g vs us′ seen′
+    context-kept = turn-of .keeps
 
-    pub context-alone : f ≡ 0 → Turn (ContextsSound g) (ContextQuiet g vs) k us us′ 0
+    pub context-alone : f ≡ 0 → SeenTurn g vs k us seen us′ seen′ 0
     context-alone none = record { keeps = turn-of .keeps; still = λ z. turn-of .still none }
 
-    pub context-followed : {xs : List ℕ} → (ContextsSound g us′ → ContextsSound g xs) →
-        Turn (ContextsSound g) (ContextQuiet g vs) k us xs 1
+    pub context-followed : {xs ss : List ℕ} → (Stands g vs us′ seen′ → Stands g vs xs ss) → SeenTurn g vs k us seen xs ss 1
     context-followed follows = record { keeps = λ s. follows (turn-of .keeps s); still = λ z. absurd (omega arith) }
 
--- A ROUND, after its first i turns: from the figures us to us′
-abbrev pub ContextsSoFar : (ws starts : List ℕ) (n rules : ℕ) (sizes vs : List ℕ) → Bool → ℕ → List ℕ → List ℕ → ℕ → Type 0
-ContextsSoFar ws starts n rules sizes vs up i us us′ f =
-    SoFar (Known ws starts n rules sizes vs) ContextsSound (λ g. ContextQuiet g vs) up rules i us us′ f
+  -- the left side of a rule has a place among the contexts, and each nonterminal one among the leasts
+  pub left-room : {B k at m : ℕ} → k < rules → 128 ≤ m → at ≡ getD starts k 0 → B ≡ getD ws at 0 → B < m
+  left-room {B} {k} {m = m} h long is e = go (viewed-rule (known .view) k h)
+    where
+      left : B ≡ getD ws (getD starts k 0) 0
+      left = rw is at e
+
+      go : (C : ℕ) × (w : List ℕ) × RuleAt g k C w → B < m
+      go (C, w, r) = omega (arith, left, viewed-left (known .view) r, r .left, viewed-room (known .view) long)
+
+  pub known-room : {m : ℕ} → 128 ≤ m → (n ≤ length vs) × (n ≤ m)
+  known-room long =
+      let is = known .view .nonterminals in
+      (rw is (room-for-all vs (g .N) (known .done .all)), rw is (viewed-room (known .view) long))

@@ -22,15 +22,19 @@ pub mod DeadGrammars
 -- The rounds.
 pub mod FiguresFall
 pub mod FiguresKept
+pub mod FiguresHaveRoom
 pub mod RoundsCompose
 pub mod RoundSoFar
 pub mod WrittenInOrder
 pub mod RuleSummed
+pub mod SymbolsCost
 pub mod LeastRounds
+pub mod RulesInside
 pub mod RuleSizes
 pub mod DoneLeasts
 pub mod ContextsFall
 pub mod ContextRounds
+pub mod SeenRounds
 pub mod RuleTotals
 -- The choices, the words, and the outcomes.
 pub mod FirstsNoted

@@ -6,22 +6,22 @@ use mathlib.Core.Bool.{So}
 use mathlib.Core.Logic.{_↔_}
 use mathlib.Core.List.{List, [], _∷_}
 use lib.ListN.{getD}
-use Rattle.answers.specs.Refusals.{Refusal, broken-layout}
+use Rattle.answers.specs.Refusals.{Refusal, broken-layout, no-tree, unreached, oversize}
 use Rattle.grammar.specs.Words.{Grammar, R, layout, reads, faults, InBounds, FaultAt}
 use Rattle.grammar.specs.Measure.{plain}
-use Rattle.grammar.specs.Refusals.{AllTrees, AllReached, AllFit}
+use Rattle.grammar.specs.Refusals.{Lowest, NoTree, AllTrees, Unreached, AllReached, Oversize, AllFit, Accepted}
 use Rattle.grammar.proofs.Certificate.{Leasts}
 use Rattle.grammar.proofs.ContextCertificate.{Contexts}
 use Rattle.grammar.proofs.ASampleOfWords.{D}
 use Rattle.grammar.proofs.ASampleOfDerivations.{empty-rule}
 use Rattle.grammar.proofs.SampleFigures.{D-table, loop}
-use Rattle.tables.specs.Table.{IsTable, totalEntry, entry}
+use Rattle.tables.specs.Table.{IsTable, HasTable, totalEntry, entry}
 use Rattle.tables.specs.Dead.{Dead}
-use Rattle.tables.specs.Promise.{Tables, Tested, refused}
+use Rattle.tables.specs.Promise.{Tables, Tested, refused, refusedTest}
 use Rattle.tables.specs.declared.TableAnswer.{TableAnswer}
 use Rattle.tables.specs.declared.TableAnswer.the-variants.{Done}
 use Rattle.tables.specs.declared.TableTest.{TableTest}
-use Rattle.tables.specs.declared.TableTest.the-variants.{Its, NotIts, Broken}
+use Rattle.tables.specs.declared.TableTest.the-variants.{Its, NotIts}
 use Rattle.tables.proofs.ASampleOfTables as ASampleOfTables
 use Rattle.tables.proofs.TableSamples as TableSamples
 use Rattle.tables.proofs.TableIsOne as TableIsOne
@@ -116,21 +116,34 @@ test-settles = TestSettles.test-settles
 pub test-met : (words table : List ℕ) → (a : TableTest) × Tested words table a
 test-met = TestSettles.test-met
 
--- Each answer is given exactly when: `Own` says that the grammar is accepted and the table is its own.
+-- Each answer is given exactly when: 4, 5, 6 and 7 as `tables` has them, and `Own` says that the grammar is accepted and the table is its own.
 pub test-broken : (words table : List ℕ) {a : TableTest} → Tested words table a →
-    (p : ℕ) → (a ≡ Broken p) ↔ (layout words ≡ faults p)
+    (q : ℕ) → (a ≡ refusedTest (broken-layout q)) ↔ (layout words ≡ faults q)
 test-broken = TestSettles.test-broken
 
-pub test-its : (words table : List ℕ) {a : TableTest} → Tested words table a → (a ≡ Its) ↔ Are words (Own table)
+pub test-no-tree : (words table : List ℕ) {a : TableTest} → Tested words table a →
+    (A : ℕ) → (a ≡ refusedTest (no-tree A)) ↔ Are words (λ g. Lowest (NoTree g) A)
+test-no-tree = TestSettles.test-no-tree
+
+pub test-unreached : (words table : List ℕ) {a : TableTest} → Tested words table a →
+    (A : ℕ) → (a ≡ refusedTest (unreached A)) ↔ Are words (λ g. AllTrees g × Lowest (Unreached g) A)
+test-unreached = TestSettles.test-unreached
+
+pub test-oversize : (words table : List ℕ) {a : TableTest} → Tested words table a →
+    (r : ℕ) → (a ≡ refusedTest (oversize r)) ↔ Are words (λ g. AllTrees g × AllReached g × Lowest (Oversize g) r)
+test-oversize = TestSettles.test-oversize
+
+pub test-its : (words table : List ℕ) {a : TableTest} → Tested words table a →
+    (n : ℕ) → (a ≡ Its n) ↔ Are words (λ g. (n ≡ R g) × Own table g)
 test-its = TestSettles.test-its
 
 pub test-not-its : (words table : List ℕ) {a : TableTest} → Tested words table a →
-    (a ≡ NotIts) ↔ Are words (λ g. ¬ Own table g)
+    (a ≡ NotIts) ↔ Are words (λ g. Accepted g × ¬ HasTable g table)
 test-not-its = TestSettles.test-not-its
 
 -- What `tables` wrote, `test` takes.
 pub tables-tested : {words before after : List ℕ} {a : TableAnswer} → Tables words before a after →
-    (n : ℕ) → a ≡ Done n → Tested words after Its
+    (n : ℕ) → a ≡ Done n → (rules : ℕ) × Tested words after (Its rules)
 tables-tested = TablesExact.tables-tested
 
 -- SAMPLES. The tables that document 01 prints.

@@ -1,119 +1,82 @@
 -- The outcomes of working a table out, each a row of document 01: what the functions on the way promise each other, put together.
 -- Assumes nothing.
-use Prim.Native.Nat.{ℕ, _+_, _*_, _≤_, _<_}
+use Prim.Native.Nat.{ℕ, zero, suc, _+_, _*_, _≤_, _<_}
 use native.Mathlib.Omega.{arith}
 use mathlib.Core.Path.{_≡_, refl, sym, ap, _∙_, subst}
 use mathlib.Core.Bool.{Bool, true, false, false≢true}
 use mathlib.Core.List.{List}
 use lib.ListN.{length, getD, set}
 use Rattle.answers.specs.Buffers.{over}
-use Rattle.grammar.specs.Words.{Grammar, RuleAt, R, InBounds, layout, faults}
+use Rattle.grammar.specs.Words.{Grammar, RuleAt, R, InBounds, layout, reads}
 use Rattle.grammar.specs.Refusals.{AllFit, Accepted}
-use Rattle.grammar.specs.Judge.{answerOf}
-use Rattle.grammar.specs.declared.layout.LayoutAnswer.{LayoutAnswer}
-use Rattle.grammar.specs.declared.layout.LayoutAnswer.the-variants as judged
-use Rattle.grammar.specs.Walk.{walkStart}
-use Rattle.grammar.specs.Rules.{startsFrom}
-use Rattle.grammar.proofs.LayoutExact.{layout-exact, in-bounds}
-use Rattle.grammar.proofs.FirstOffence.{layout-faults-exact}
-use Rattle.grammar.proofs.JudgeExact.{judge-fault-exact, judge-grammar-exact}
+use Rattle.grammar.proofs.LayoutExact.{in-bounds, reads-unique}
 use Rattle.grammar.proofs.RuleNumbers.{rule-number}
-use Rattle.grammar.proofs.RulesByNumber.{found-starts}
 use Rattle.grammar.proofs.CappedTotals.{all-fit-exact}
 use Rattle.tables.specs.Table.{HasTable, tableLength}
-use Rattle.tables.specs.Promise.{Tables, row-5, row-6, row-7, row-3, done, Tested, its, not-its}
+use Rattle.tables.specs.Promise.{Tables, row-4, row-5, row-6, row-7, row-3, done}
+use Rattle.tables.specs.Promise.{Tested, test-4, test-5, test-6, test-7, its, not-its}
 use Rattle.tables.specs.Tests.{Says}
-use Rattle.tables.specs.Figures.{figure, FirstAbove, found-none, LeastsRest, ContextsRest, SizesOf, TotalsOf}
-use Rattle.grammar.proofs.RulesInView.{View}
+use Rattle.tables.specs.Figures.{figure, FirstAbove, found-none, LeastsDone, ContextsRest, TotalsOf}
+use Rattle.tables.specs.LeastSteps.{LeastsSized}
+use Rattle.grammar.proofs.RulesInView.{View, Begun}
 use Rattle.tables.specs.Figures.{Empty, LeastsSound, ContextsSound, ChosenOf, PlacesOf}
-use Rattle.tables.specs.Rows.{Read, Grown, Placed}
+use Rattle.tables.specs.Rows.{Grown, Placed}
+use Rattle.tables.specs.Written.{Room}
 use Rattle.tables.specs.declared.TableAnswer.{TableAnswer}
 use Rattle.tables.specs.declared.TableAnswer.the-variants.{Done, Refused}
-use Rattle.tables.specs.declared.TableTest.the-variants.{Its, NotIts}
+use Rattle.tables.specs.declared.TableTest.{TableTest}
+use Rattle.tables.specs.declared.TableTest.the-variants as test
 use Rattle.tables.specs.declared.figures.Found.{Found}
 use Rattle.tables.specs.declared.figures.Found.the-variants.{At, Nothing}
 use Rattle.tables.proofs.RowsFound.{leasts-begin, contexts-begin, row-5-found, leasts-found, all-trees, row-6-found}
 use Rattle.tables.proofs.RowsFound.{contexts-found}
 use Rattle.tables.proofs.RowsFound.{figures, all-reached, row-7-found, all-fit}
 use Rattle.tables.proofs.FiguresFall.{figure-is}
+use Rattle.tables.proofs.FiguresHaveRoom.{room-for-all}
 use Rattle.tables.proofs.TableEntries.{tableWords}
 use Rattle.tables.proofs.TableFound.{table-found}
 
--- a grammar's bounds, of what is known of the words
-pub view-few : {ws starts : List ℕ} {n rules : ℕ} {g : Grammar} → View ws starts n rules g → (n ≤ 128) × (rules ≤ 256)
-view-few {ws} v =
-    let ok = in-bounds ws (v .is) in
-    let n = v .nonterminals in
-    let r = v .all-rules in
-    (omega (arith, ok .nonterminals), omega (arith, ok .at-most-256))
-
--- what the judge's answer says of the words
-pub broken-of : (ws : List ℕ) {r : LayoutAnswer} {p : ℕ} → r ≡ answerOf (layout ws) → r ≡ judged.Fault p → layout ws ≡ faults p
-broken-of ws {p = p} e q = layout-faults-exact ws p .1 (judge-fault-exact ws e p .0 q)
-
-pub read-of : (ws : List ℕ) {r : LayoutAnswer} {n t s k : ℕ} → r ≡ answerOf (layout ws) → r ≡ judged.Grammar n t s k → Read ws n s k
-read-of ws {n = n} {t} {s} {k} e q =
-    let w = judge-grammar-exact ws e n t s k .0 q in
-    record {
-      grammar = w .grammar;
-      is = layout-exact ws (w .grammar) .1 (w .ok, w .are);
-      nonterminals = sym (w .nonterminals);
-      first = sym (w .start);
-      all-rules = sym (w .rules);
-    }
-
--- what is known of the words before the rules are found, and after
-pub read-few : {ws : List ℕ} {n start rules : ℕ} → Read ws n start rules → (n ≤ 128) × (rules ≤ 256)
-read-few {ws} p =
-    let ok = in-bounds ws (p .is) in
-    let n = p .nonterminals in
-    let r = p .all-rules in
-    (omega (arith, ok .nonterminals), omega (arith, ok .at-most-256))
-
-pub viewed : {ws starts : List ℕ} {n start rules : ℕ} (p : Read ws n start rules) (before : List ℕ) →
-    starts ≡ over (startsFrom 256 ws walkStart) before → View ws starts n rules (p .grammar)
-viewed {ws} p before e = record {
-  is = p .is;
-  begin = λ k l. ap (λ (x : List ℕ). getD x k 0) e ∙ found-starts ws (p .grammar) (p .is) before k l;
-  nonterminals = p .nonterminals;
-  all-rules = p .all-rules;
-}
-
 -- the arrays at the outset
-pub leasts-start : {ws xs : List ℕ} {n start rules : ℕ} (p : Read ws n start rules) → Empty xs → LeastsSound (p .grammar) xs
-leasts-start {ws} {xs} p e = leasts-begin (p .grammar) xs (in-bounds ws (p .is) .nonterminals) e
+pub leasts-start : {ws starts xs : List ℕ} {n start rules : ℕ} (p : Begun ws starts n start rules) → Empty xs →
+    LeastsSound (p .grammar) xs
+leasts-start {ws} {xs = xs} p e = leasts-begin (p .grammar) xs (in-bounds ws (p .view .is) .nonterminals) e
 
-pub start-few : {ws starts vs : List ℕ} {n start rules : ℕ} → Grown ws starts n start rules vs → start < 128
+pub start-few : {ws starts vs sizes : List ℕ} {n start rules : ℕ} → Grown ws starts n start rules vs sizes → start < 128
 start-few {ws} p =
     let ok = in-bounds ws (p .view .is) in
     let e = p .first in
     omega (arith, ok .start-below, ok .nonterminals)
 
-pub contexts-start : {ws starts vs xs : List ℕ} {n start rules : ℕ} (p : Grown ws starts n start rules vs) → Empty xs →
-    ContextsSound (p .grammar) (set xs start 0)
+pub contexts-start : {ws starts vs sizes xs : List ℕ} {n start rules : ℕ} (p : Grown ws starts n start rules vs sizes) →
+    Empty xs → ContextsSound (p .grammar) (set xs start 0)
 contexts-start {ws} {xs = xs} p e =
     let ok = in-bounds ws (p .view .is) in
     rw (p .first) (contexts-begin (p .grammar) xs (ok .nonterminals) (ok .start-below) e)
 
 -- 5, or what goes on
 module _ {ws starts : List ℕ} {n start rules : ℕ} (g : Grammar) (view : View ws starts n rules g) (first : start ≡ g .start)
-    {vs : List ℕ} (rest : LeastsRest g vs) {found : Found} (search : FirstAbove vs n 4097 found) where
+    {vs sizes : List ℕ} (sized : LeastsSized g vs sizes) {found : Found} (search : FirstAbove vs n 4097 found) where
   searched-leasts : FirstAbove vs (g .N) 4097 found
   searched-leasts = subst (λ (m : ℕ). FirstAbove vs m 4097 found) (view .nonterminals) search
 
   pub refuses-5 : {before : List ℕ} {a : ℕ} {r : TableAnswer} → found ≡ At a → r ≡ Refused 5 a → Tables ws before r before
-  refuses-5 {a = a} e q = rw q (row-5 (view .is) (row-5-found g vs rest a (subst (FirstAbove vs (g .N) 4097) e searched-leasts)))
+  refuses-5 {a = a} e q =
+      rw q (row-5 (view .is) (row-5-found g vs (sized .rest) a (subst (FirstAbove vs (g .N) 4097) e searched-leasts)))
 
-  pub grown : found ≡ Nothing → Grown ws starts n start rules vs
+  leasts-done : found ≡ Nothing → LeastsDone g vs
+  leasts-done e = leasts-found g vs (sized .rest) (subst (FirstAbove vs (g .N) 4097) e searched-leasts)
+
+  pub grown : found ≡ Nothing → Grown ws starts n start rules vs sizes
   grown e = record {
     grammar = g;
     view = view;
     first = first;
-    leasts = leasts-found g vs rest (subst (FirstAbove vs (g .N) 4097) e searched-leasts);
+    leasts = leasts-done e;
+    sizes-are = sized .sized (leasts-done e);
   }
 
 -- 6, or what goes on
-module _ {ws starts : List ℕ} {n start rules : ℕ} {vs : List ℕ} (p : Grown ws starts n start rules vs) {us : List ℕ}
+module _ {ws starts : List ℕ} {n start rules : ℕ} {vs sizes : List ℕ} (p : Grown ws starts n start rules vs sizes) {us : List ℕ}
     (rest : ContextsRest (p .grammar) vs us) {found : Found} (search : FirstAbove us n 4097 found) where
   searched-contexts : FirstAbove us (p .grammar .N) 4097 found
   searched-contexts = subst (λ (m : ℕ). FirstAbove us m 4097 found) (p .view .nonterminals) search
@@ -123,14 +86,31 @@ module _ {ws starts : List ℕ} {n start rules : ℕ} {vs : List ℕ} (p : Grown
       rw q (row-6 (p .view .is) (all-trees (p .grammar) vs (p .leasts))
       (row-6-found (p .grammar) vs (p .leasts) us rest a (subst (FirstAbove us (p .grammar .N) 4097) e searched-contexts)))
 
-  pub placed : {sizes : List ℕ} → found ≡ Nothing → SizesOf (p .grammar) vs sizes → Placed ws starts n rules vs sizes us
-  placed e s = record {
+  pub placed : found ≡ Nothing → Placed ws starts n rules vs sizes us
+  placed e = record {
     grammar = p .grammar;
     view = p .view;
     leasts = p .leasts;
-    sizes-are = s;
+    sizes-are = p .sizes-are;
     contexts = contexts-found (p .grammar) vs (p .leasts) us rest (subst (FirstAbove us (p .grammar .N) 4097) e searched-contexts);
   }
+
+-- the leasts and the contexts have a place for each nonterminal
+pub placed-room : {ws starts vs sizes us : List ℕ} {n rules : ℕ} → Placed ws starts n rules vs sizes us →
+    (n ≤ length vs) × (n ≤ length us)
+placed-room {vs = vs} {us = us} p =
+    let e = p .view .nonterminals in
+    let N = p .grammar .N in
+    (rw e (room-for-all vs N (p .leasts .all)), rw e (room-for-all us N (p .contexts .all)))
+
+pub all-placed : {ws starts : List ℕ} {n rules : ℕ} {vs sizes us chosen places : List ℕ} → Placed ws starts n rules vs sizes us →
+    n ≤ length chosen → n ≤ length places → Room n vs chosen us places
+all-placed p c q = let (of-leasts, of-contexts) = placed-room p in record {
+  of-leasts = of-leasts;
+  of-chosen = c;
+  of-contexts = of-contexts;
+  of-places = q;
+}
 
 -- 7, 3, or the table
 module _ {ws starts : List ℕ} {n rules : ℕ} {vs sizes us : List ℕ} (p : Placed ws starts n rules vs sizes us) {totals : List ℕ}
@@ -195,12 +175,40 @@ module _ {ws starts : List ℕ} {n rules : ℕ} {vs sizes us : List ℕ} (p : Pl
       rw (w ∙ ap (λ (x : List ℕ). over x before) (same-words chosen places), needed) (done (p .view .is) (all-trees (p .grammar) vs (p .leasts))
       (all-reached (p .grammar) vs (p .leasts) us (p .contexts)) (fits e) (rw needed at l) t)
 
--- a lent table, tested
-module _ {ws table : List ℕ} {n start rules : ℕ} (p : Read ws n start rules) where
-  pub tests-its : (r : Bool) → r ≡ true → Says r (Accepted (p .grammar) × HasTable (p .grammar) table) → Tested ws table Its
-  tests-its true e z = its (p .is) (z .0) (z .1)
+-- a lent table, tested: it is the grammar's, or it is not, and then rows 5 to 7 are those of a table without room
+module _ {ws starts : List ℕ} {n start rules : ℕ} (p : Begun ws starts n start rules) (table : List ℕ) where
+  pub tests-its : (r : Bool) → r ≡ true → Says r (Accepted (p .grammar) × HasTable (p .grammar) table) →
+      Tested ws table (test.Its rules)
+  tests-its true e z = rw (p .view .all-rules) (its (p .view .is) (z .0) (z .1))
   tests-its false e z = absurd (false≢true e)
 
-  pub tests-not-its : (r : Bool) → r ≡ false → Says r (Accepted (p .grammar) × HasTable (p .grammar) table) → Tested ws table NotIts
-  tests-not-its true e z = absurd (false≢true (sym e))
-  tests-not-its false e z = not-its (p .is) z
+  pub not-own : (r : Bool) → r ≡ false → Says r (Accepted (p .grammar) × HasTable (p .grammar) table) → Accepted (p .grammar) →
+      ¬ HasTable (p .grammar) table
+  not-own true e z a h = absurd (false≢true (sym e))
+  not-own false e z a h = z (a, h)
+
+  module _ (other : Accepted (p .grammar) → ¬ HasTable (p .grammar) table) where
+    accepts : {g : Grammar} → layout ws ≡ reads g → Accepted g → Tested ws table test.NotIts
+    accepts {g} e a =
+        let b : Accepted (p .grammar) = rw (reads-unique ws e (p .view .is)) at a in
+        not-its (p .view .is) b (other b)
+
+    -- what is said of the answer without room, Done or refused by 3 or not
+    pub done-is-not-its : {before after : List ℕ} {a : TableAnswer} {k : ℕ} → Tables ws before a after → a ≡ Done k →
+        Tested ws table test.NotIts
+    done-is-not-its t e = go (rw e at t)
+      where
+        go : {before after : List ℕ} {k : ℕ} → Tables ws before (Done k) after → Tested ws table test.NotIts
+        go (done e t u f l is) = accepts e (record { trees = t; reached = u; fit = f })
+
+    pub refused-is : {before after : List ℕ} {a : TableAnswer} {k q : ℕ} {r : TableTest} → Tables ws before a after →
+        a ≡ Refused k q → (k ≡ 3 → r ≡ test.NotIts) × (¬ (k ≡ 3) → r ≡ test.Refused k q) → Tested ws table r
+    refused-is t e is = go (rw e at t) is
+      where
+        go : {before after : List ℕ} {k q : ℕ} {r : TableTest} → Tables ws before (Refused k q) after →
+            (k ≡ 3 → r ≡ test.NotIts) × (¬ (k ≡ 3) → r ≡ test.Refused k q) → Tested ws table r
+        go (row-4 e) is = rw (is .1 (λ z. omega arith)) (test-4 e)
+        go (row-5 e low) is = rw (is .1 (λ z. omega arith)) (test-5 e low)
+        go (row-6 e t low) is = rw (is .1 (λ z. omega arith)) (test-6 e t low)
+        go (row-7 e t u low) is = rw (is .1 (λ z. omega arith)) (test-7 e t u low)
+        go (row-3 e t u f l) is = rw (is .0 refl) (accepts e (record { trees = t; reached = u; fit = f }))

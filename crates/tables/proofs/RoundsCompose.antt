@@ -10,6 +10,14 @@ use native.Mathlib.Omega.{arith}
 use borrow.Author.Count.{below-more}
 use Rattle.tables.specs.Figures.{Turn, Round, turn}
 
+-- each rule has its turn
+pub each-turn : (Q : ℕ → Type 0) (up : Bool) (rules : ℕ) → ((j : ℕ) → j < rules → Q (turn up rules j)) →
+    (k : ℕ) → k < rules → Q k
+each-turn Q true rules quiet k h = quiet k h
+each-turn Q false rules quiet k h =
+    let e : rules - 1 - (rules - 1 - k) ≡ k = omega arith in
+    rw e at (quiet (rules - 1 - k) (omega arith))
+
 module _ (Sound : List ℕ → Type 0) (Quiet : List ℕ → ℕ → Type 0) where
   -- the first i turns of a round
   pub record Turns (up : Bool) (rules i : ℕ) (before after : List ℕ) (n : ℕ) : Type 0 where
@@ -29,15 +37,11 @@ module _ (Sound : List ℕ → Type 0) (Quiet : List ℕ → ℕ → Type 0) whe
           let (q′, last) = u .still (omega arith) in
           (q′ ∙ q, below-more _ i quiet (rw q at last))
 
-  -- each rule has its turn
   pub turns-all : {up : Bool} {rules n : ℕ} {xs ys : List ℕ} → Turns up rules rules xs ys n → Round Sound Quiet rules xs ys n
-  turns-all {up} {rules} {n} {xs} t = record { keeps = t .keeps; still = λ e. (t .still e .0, each up (t .still e .1)) }
-    where
-      each : (up : Bool) → ((j : ℕ) → j < rules → Quiet xs (turn up rules j)) → (k : ℕ) → k < rules → Quiet xs k
-      each true quiet k h = quiet k h
-      each false quiet k h =
-          let e : rules - 1 - (rules - 1 - k) ≡ k = omega arith in
-          rw e at (quiet (rules - 1 - k) (omega arith))
+  turns-all {up} {rules} {xs = xs} t = record {
+    keeps = t .keeps;
+    still = λ e. (t .still e .0, each-turn (Quiet xs) up rules (t .still e .1));
+  }
 
   -- rounds one after the other, of which the last lowered n figures
   pub record Rounds (rules : ℕ) (before after : List ℕ) (n : ℕ) : Type 0 where

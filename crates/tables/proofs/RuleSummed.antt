@@ -13,13 +13,23 @@ use Rattle.grammar.specs.Tree.{_∈_}
 use Rattle.grammar.specs.Measure.{plain}
 use Rattle.grammar.proofs.Certificate.{symbolSize, wordSize, symbol-nonterminal, symbol-terminal}
 use Rattle.tables.specs.Figures.{figure, Has, HaveIn}
-use Rattle.tables.specs.LeastSteps.{SymbolSize, of-nonterminal, of-terminal, SizeOf}
+use Rattle.tables.specs.LeastSteps.{SizeOf}
+use Rattle.tables.proofs.FiguresFall.{figure-is}
+
+-- a symbol's size by the figures vs, where n symbols are nonterminals
+pub data SymbolSize (n : ℕ) (vs : List ℕ) (s : ℕ) : ℕ → Type 0 where
+  of-nonterminal : s < n → SymbolSize n vs s (figure vs s)
+  of-terminal : n ≤ s → SymbolSize n vs s 1
 
 -- the sum of the symbols before place i, and one
 pub record Summed (n : ℕ) (vs w : List ℕ) (i sum : ℕ) : Type 0 where
   pub have : HaveIn n vs (drop i w) → HaveIn n vs w
   pub rest : (g : Grammar) → n ≡ g .N → sum + wordSize plain g (figure vs) (drop i w) ≡ 1 + wordSize plain g (figure vs) w
   pub small : sum ≤ 1 + 65535 * i
+
+-- a nonterminal's size, as it is read
+pub symbol-read : {n s : ℕ} (vs : List ℕ) → s < n → n ≤ length vs → SymbolSize n vs s (getD vs s 0)
+symbol-read {s = s} vs l room = rw (figure-is vs s 0 (omega arith)) (of-nonterminal l)
 
 module _ (n : ℕ) (vs w : List ℕ) where
   symbol-is : {s x : ℕ} → SymbolSize n vs s x → (g : Grammar) → n ≡ g .N → symbolSize plain g (figure vs) s ≡ x

@@ -1,17 +1,15 @@
 -- The words of the table, by index: the five of nonterminal A stand at 5A to 5A + 4, the total of rule r at 5n + r. And what a
 -- buffer holds when some of them are written. Assumes nothing.
-use Prim.Native.Nat.{ℕ, zero, suc, _+_, _-_, _*_, _/_, _%_, _≤_, _<_}
+use Prim.Native.Nat.{ℕ, _+_, _-_, _*_, _/_, _%_, _≤_, _<_}
 use native.Mathlib.Omega.{arith}
-use mathlib.Core.Path.{_≡_, refl, ap, _∙_}
-use mathlib.Core.Bool.{true, false}
-use mathlib.Core.List.{List, _++_}
-use lib.Dec.{ltb, eqb}
-use lib.ListN.{length, getD, set, take, drop}
+use mathlib.Core.Path.{_≡_, refl, _∙_}
+use mathlib.Core.List.{List}
+use lib.Dec.{eqb}
+use lib.ListN.{length, getD, set}
 use borrow.Author.Tests.{lt-ltb, le-ltb, eq-eqb, ne-eqb}
 use Rattle.answers.specs.Buffers.{over}
 use Rattle.answers.proofs.WrittenFromFront.{store-next, all-over}
-use Rattle.tables.specs.Written.{tabulate, orElse, contextPlace, fiveWord, tableWord}
-use Rattle.tables.specs.Figures.{figure}
+use Rattle.tables.specs.Written.{tabulate, orElse, fiveWord, storeFive, tableWord, writtenTo}
 use Rattle.tables.proofs.Tabulate.{length-tabulate, getD-tabulate}
 
 -- a number or none
@@ -21,14 +19,10 @@ or-none q x e = rw (eq-eqb q 65535 e)
 pub or-some : (q x : ℕ) → ¬ (q ≡ 65535) → orElse (eqb q 65535) 65535 x ≡ x
 or-some q x d = rw (ne-eqb q 65535 d)
 
--- the last of the five
-pub five-last : (leasts chosen contexts places : List ℕ) (A j : ℕ) → 4 ≤ j →
-    fiveWord leasts chosen contexts places A j ≡ contextPlace (figure places A)
-five-last leasts chosen contexts places A zero h = absurd (omega arith)
-five-last leasts chosen contexts places A (suc zero) h = absurd (omega arith)
-five-last leasts chosen contexts places A (suc (suc zero)) h = absurd (omega arith)
-five-last leasts chosen contexts places A (suc (suc (suc zero))) h = absurd (omega arith)
-five-last leasts chosen contexts places A (suc (suc (suc (suc j)))) h = refl
+-- five stores of what the five words are
+pub same-five : (f : ℕ → ℕ) (at : ℕ) (xs : List ℕ) {a b c d e : ℕ} → a ≡ f 0 → b ≡ f 1 → c ≡ f 2 → d ≡ f 3 → e ≡ f 4 →
+    set (set (set (set (set xs at a) (at + 1) b) (at + 2) c) (at + 3) d) (at + 4) e ≡ storeFive f at xs
+same-five f at xs p q r s t = rw (p, q, r, s, t)
 
 module _ (n : ℕ) (leasts chosen contexts places totals : List ℕ) where
   abbrev pub word : ℕ → ℕ
@@ -66,11 +60,23 @@ module _ (n : ℕ) (leasts chosen contexts places totals : List ℕ) where
     -- written one after the other into a buffer
     module _ (before : List ℕ) where
       abbrev pub written : ℕ → List ℕ
-      written i = take i tableWords ++ drop i before
+      written i = writtenTo n leasts chosen contexts places totals rules before i
 
-      pub store-word : (i : ℕ) → i < 5 * n + rules → 5 * n + rules ≤ length before → set (written i) i (word i) ≡ written (i + 1)
-      store-word i h room =
-          rw (← at-index i h) (store-next tableWords before i (omega (arith, table-length)) (omega arith))
+      pub store-word : {i j x : ℕ} {xs : List ℕ} → i < 5 * n + rules → 5 * n + rules ≤ length before → j ≡ i + 1 →
+          getD tableWords i 0 ≡ x → xs ≡ written i → set xs i x ≡ written j
+      store-word {i} h room next is so-far =
+          rw (next, ← is, so-far) (store-next tableWords before i (omega (arith, table-length)) (omega arith))
 
-      pub all-written : (i : ℕ) → i ≡ 5 * n + rules → written i ≡ over tableWords before
-      all-written i e = all-over tableWords before i (omega (arith, table-length))
+      pub store-five : (A : ℕ) {xs ys : List ℕ} → A < n → 5 * n + rules ≤ length before → xs ≡ written (5 * A) →
+          ys ≡ storeFive (fiveWord leasts chosen contexts places A) (5 * A) xs → ys ≡ written (5 * (A + 1))
+      store-five A h room so-far stored =
+          let at = at-five A in
+          let e : 5 * A + 0 ≡ 5 * A = omega arith in
+          let first = store-word {j = 5 * A + 1} (omega arith) room refl (rw e at (at 0 h (omega arith))) so-far in
+          let second = store-word {j = 5 * A + 2} (omega arith) room (omega arith) (at 1 h (omega arith)) first in
+          let third = store-word {j = 5 * A + 3} (omega arith) room (omega arith) (at 2 h (omega arith)) second in
+          let fourth = store-word {j = 5 * A + 4} (omega arith) room (omega arith) (at 3 h (omega arith)) third in
+          stored ∙ store-word {j = 5 * (A + 1)} (omega arith) room (omega arith) (at 4 h (omega arith)) fourth
+
+      pub all-written : {xs : List ℕ} → xs ≡ written (5 * n + rules) → xs ≡ over tableWords before
+      all-written so-far = so-far ∙ all-over tableWords before (5 * n + rules) (omega (arith, table-length))

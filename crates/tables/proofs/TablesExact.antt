@@ -123,9 +123,9 @@ module _ {words before after : List ℕ} {a : TableAnswer} (p : Tables words bef
   tables-writes n e = only-done words before (rw e at p) .1
 
   -- so that `test` takes what `tables` wrote
-  pub tables-tested : (n : ℕ) → a ≡ Done n → Tested words after Its
+  pub tables-tested : (n : ℕ) → a ≡ Done n → (rules : ℕ) × Tested words after (Its rules)
   tables-tested n e =
       let (g, read, (accepted, same, room)) = tables-done n .0 e in
       let (h, read′, written) = tables-writes n e in
       let eq : h ≡ g = reads-unique words read′ read in
-      its read accepted (rw eq at (written .table))
+      (_, its read accepted (rw eq at (written .table)))

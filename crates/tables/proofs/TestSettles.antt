@@ -1,21 +1,22 @@
 -- The promise of `test` settles its answer: for each words and each table there is exactly one that it allows, and each is given
--- exactly when it should be. The words break at one place or are one grammar; of that the table is its own or not, which is
--- decided by comparing it with the table that the grammar has if it is accepted. Assumes nothing.
+-- exactly when it should be. Rows 4 to 7 are those of all promises over a grammar; of an accepted one the table is its own or not,
+-- which is decided by comparing it with the table that the grammar has. Assumes nothing.
 use Prim.Native.Nat.{ℕ}
 use native.Mathlib.Decide.{ℕ-discrete}
-use mathlib.Core.Path.{_≡_, refl, sym, _∙_}
+use mathlib.Core.Path.{_≡_, refl, sym, ap, _∙_}
 use mathlib.Core.Logic.{_↔_}
 use mathlib.Core.List.{List, List-discrete}
 use lib.ListN.{take}
-use Rattle.grammar.specs.Words.{Grammar, layout, faults, InBounds}
-use Rattle.grammar.specs.Refusals.{Accepted}
+use Rattle.answers.specs.Refusals.{broken-layout, no-tree, unreached, oversize}
+use Rattle.grammar.specs.Words.{Grammar, R, layout, faults, InBounds}
+use Rattle.grammar.specs.Refusals.{Lowest, NoTree, AllTrees, Unreached, AllReached, Oversize, Accepted}
 use Rattle.tables.specs.Table.{IsTable, HasTable, tableLength}
-use Rattle.tables.specs.Promise.{Tested, broken, its, not-its}
+use Rattle.tables.specs.Promise.{Tested, refusedTest, test-4, test-5, test-6, test-7, its, not-its}
 use Rattle.tables.specs.declared.TableTest.{TableTest}
-use Rattle.tables.specs.declared.TableTest.the-variants.{Its, NotIts, Broken}
+use Rattle.tables.specs.declared.TableTest.the-variants.{Its, NotIts}
 use Rattle.answers.proofs.Gates.{Gate, stop, go, Settles, gate-settles}
-use Rattle.tables.proofs.FirstRows.{Are, OfWords, fault, grammar, words-settle}
-use Rattle.tables.proofs.FirstRowsMet.{words-met, accepted?}
+use Rattle.tables.proofs.FirstRows.{Are, OfWords, fault, grammar, words-settle, FromFive, five-settles}
+use Rattle.tables.proofs.FirstRowsMet.{words-met, five-met}
 use Rattle.tables.proofs.TableIsOne.{table-unique}
 use Rattle.tables.proofs.TableExists.{table-exists}
 
@@ -23,64 +24,95 @@ use Rattle.tables.proofs.TableExists.{table-exists}
 abbrev pub Own : List ℕ → Grammar → Type 0
 Own table g = Accepted g × HasTable g table
 
+-- whether it is its own
+pub tabled? : (table : List ℕ) (g : Grammar) → InBounds g → Accepted g → Dec (HasTable g table)
+tabled? table g ok a =
+    let (ws, is) = table-exists g ok (a .trees) (a .reached) in
+    same ws is (List-discrete ℕ-discrete ws (take (tableLength g) table))
+  where
+    same : (ws : List ℕ) → IsTable g ws → Dec (ws ≡ take (tableLength g) table) → Dec (HasTable g table)
+    same ws is (yes e) = yes (rw e at is)
+    same ws is (no n) = no (λ h. n (table-unique is h))
+
 module _ (words table : List ℕ) where
+  -- after 7
+  abbrev FromTable : Grammar → TableTest → Type 0
+  FromTable g = Gate (λ (n : ℕ). (n ≡ R g) × HasTable g table) (¬ HasTable g table) (λ n. Its n) (λ o. o ≡ NotIts)
+
   abbrev Rows : Grammar → TableTest → Type 0
-  Rows g = Gate {X = Unit {0}} (λ x. Own table g) (¬ Own table g) (λ x. Its) (λ o. o ≡ NotIts)
+  Rows g = FromFive refusedTest g (FromTable g)
 
   rows-settle : (g : Grammar) → Settles (Rows g)
-  rows-settle g = gate-settles {X = Unit {0}} (λ x. Its) (λ x y a b. refl) (λ x a n. n a) (λ o o′ a b. a ∙ sym b)
+  rows-settle g =
+      five-settles refusedTest g (FromTable g)
+      (gate-settles (λ (n : ℕ). Its n) (λ x y a b. a .0 ∙ sym (b .0)) (λ x a n. n (a .1)) (λ o o′ a b. a ∙ sym b))
 
-  rows : {a : TableTest} → Tested words table a → OfWords words Broken Rows a
-  rows (broken e) = fault e
-  rows (its e a t) = grammar e (stop {x = tt} (a, t))
-  rows (not-its e n) = grammar e (go n refl)
+  rows : {a : TableTest} → Tested words table a → OfWords words (λ p. refusedTest (broken-layout p)) Rows a
+  rows (test-4 e) = fault e
+  rows (test-5 e low) = grammar e (stop low)
+  rows (test-6 e t low) = grammar e (go t (stop low))
+  rows (test-7 e t u low) = grammar e (go t (go u (stop low)))
+  rows (its e a h) = grammar e (go (a .trees) (go (a .reached) (go (a .fit) (stop (refl, h)))))
+  rows (not-its e a n) = grammar e (go (a .trees) (go (a .reached) (go (a .fit) (go n refl))))
 
   -- AT MOST ONE
   pub test-settles : {a a′ : TableTest} → Tested words table a → Tested words table a′ → a ≡ a′
-  test-settles {a} {a′} x y = words-settle words Broken Rows rows-settle a a′ (rows x) (rows y)
+  test-settles {a} {a′} x y = words-settle words _ Rows rows-settle a a′ (rows x) (rows y)
 
-  own? : (g : Grammar) → InBounds g → Dec (Own table g)
-  own? g ok = decide (accepted? g ok)
-    where
-      same : Accepted g → (ws : List ℕ) → IsTable g ws → Dec (ws ≡ take (tableLength g) table) → Dec (Own table g)
-      same a ws is (yes e) = yes (a, rw e at is)
-      same a ws is (no n) = no (λ z. n (table-unique is (z .1)))
+  row : {a : TableTest} → OfWords words (λ p. refusedTest (broken-layout p)) Rows a → Tested words table a
+  row (fault e) = test-4 e
+  row (grammar e (stop low)) = test-5 e low
+  row (grammar e (go t (stop low))) = test-6 e t low
+  row (grammar e (go t (go u (stop low)))) = test-7 e t u low
+  row (grammar e (go t (go u (go f (stop (same, h)))))) = rw same (its e (record { trees = t; reached = u; fit = f }) h)
+  row (grammar e (go t (go u (go f (go n o))))) = rw o (not-its e (record { trees = t; reached = u; fit = f }) n)
 
-      decide : Dec (Accepted g) → Dec (Own table g)
-      decide (yes a) =
-          let (ws, is) = table-exists g ok (a .trees) (a .reached) in
-          same a ws is (List-discrete ℕ-discrete ws (take (tableLength g) table))
-      decide (no n) = no (λ z. n (z .0))
-
-  row : {a : TableTest} → OfWords words Broken Rows a → Tested words table a
-  row (fault e) = broken e
-  row (grammar e (stop (a, t))) = its e a t
-  row (grammar e (go n o)) = rw o (not-its e n)
+  table-met : (g : Grammar) → Dec (HasTable g table) → (a : TableTest) × FromTable g a
+  table-met g (yes h) = (Its (R g), stop (refl, h))
+  table-met g (no n) = (NotIts, go n refl)
 
   -- AT LEAST ONE
   pub test-met : (a : TableTest) × Tested words table a
-  test-met = let (o, z) = words-met words Broken Rows (λ g ok. one g (own? g ok)) in (o, row z)
-    where
-      one : (g : Grammar) → Dec (Own table g) → (a : TableTest) × Rows g a
-      one g (yes z) = (Its, stop {x = tt} z)
-      one g (no n) = (NotIts, go n refl)
+  test-met =
+      let (o, z) = words-met words _ Rows (λ g ok. five-met refusedTest g ok (FromTable g) (λ a. table-met g (tabled? table g ok a))) in
+      (o, row z)
 
   -- EXACTLY WHEN, of each answer
-  only-broken : {p : ℕ} → Tested words table (Broken p) → layout words ≡ faults p
-  only-broken (broken e) = e
+  only-4 : {q : ℕ} → Tested words table (refusedTest (broken-layout q)) → layout words ≡ faults q
+  only-4 (test-4 e) = e
 
-  only-its : Tested words table Its → Are words (Own table)
-  only-its (its {g = g} e a t) = (g, e, (a, t))
+  only-5 : {A : ℕ} → Tested words table (refusedTest (no-tree A)) → Are words (λ g. Lowest (NoTree g) A)
+  only-5 (test-5 {g = g} e low) = (g, e, low)
 
-  only-not-its : Tested words table NotIts → Are words (λ g. ¬ Own table g)
-  only-not-its (not-its {g = g} e n) = (g, e, n)
+  only-6 : {A : ℕ} → Tested words table (refusedTest (unreached A)) → Are words (λ g. AllTrees g × Lowest (Unreached g) A)
+  only-6 (test-6 {g = g} e t low) = (g, e, (t, low))
+
+  only-7 : {r : ℕ} → Tested words table (refusedTest (oversize r)) →
+      Are words (λ g. AllTrees g × AllReached g × Lowest (Oversize g) r)
+  only-7 (test-7 {g = g} e t u low) = (g, e, (t, u, low))
+
+  only-its : {n : ℕ} → Tested words table (Its n) → Are words (λ g. (n ≡ R g) × Own table g)
+  only-its (its {g = g} e a h) = (g, e, (refl, (a, h)))
+
+  only-not-its : Tested words table NotIts → Are words (λ g. Accepted g × ¬ HasTable g table)
+  only-not-its (not-its {g = g} e a n) = (g, e, (a, n))
 
   module _ {a : TableTest} (t : Tested words table a) where
-    pub test-broken : (p : ℕ) → (a ≡ Broken p) ↔ (layout words ≡ faults p)
-    test-broken p = (λ e. only-broken (rw e at t), λ h. test-settles t (broken h))
+    pub test-broken : (q : ℕ) → (a ≡ refusedTest (broken-layout q)) ↔ (layout words ≡ faults q)
+    test-broken q = (λ e. only-4 (rw e at t), λ h. test-settles t (test-4 h))
 
-    pub test-its : (a ≡ Its) ↔ Are words (Own table)
-    test-its = (λ e. only-its (rw e at t), λ (g, e, (a, h)). test-settles t (its e a h))
+    pub test-no-tree : (A : ℕ) → (a ≡ refusedTest (no-tree A)) ↔ Are words (λ g. Lowest (NoTree g) A)
+    test-no-tree A = (λ e. only-5 (rw e at t), λ (g, e, low). test-settles t (test-5 e low))
 
-    pub test-not-its : (a ≡ NotIts) ↔ Are words (λ g. ¬ Own table g)
-    test-not-its = (λ e. only-not-its (rw e at t), λ (g, e, n). test-settles t (not-its e n))
+    pub test-unreached : (A : ℕ) → (a ≡ refusedTest (unreached A)) ↔ Are words (λ g. AllTrees g × Lowest (Unreached g) A)
+    test-unreached A = (λ e. only-6 (rw e at t), λ (g, e, (u, low)). test-settles t (test-6 e u low))
+
+    pub test-oversize : (r : ℕ) → (a ≡ refusedTest (oversize r)) ↔
+        Are words (λ g. AllTrees g × AllReached g × Lowest (Oversize g) r)
+    test-oversize r = (λ e. only-7 (rw e at t), λ (g, e, (u, v, low)). test-settles t (test-7 e u v low))
+
+    pub test-its : (n : ℕ) → (a ≡ Its n) ↔ Are words (λ g. (n ≡ R g) × Own table g)
+    test-its n = (λ e. only-its (rw e at t), λ (g, e, (same, (a, h))). rw same (test-settles t (its e a h)))
+
+    pub test-not-its : (a ≡ NotIts) ↔ Are words (λ g. Accepted g × ¬ HasTable g table)
+    test-not-its = (λ e. only-not-its (rw e at t), λ (g, e, (a, n)). test-settles t (not-its e a n))

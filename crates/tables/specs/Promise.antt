@@ -7,13 +7,13 @@ use mathlib.Core.List.{List}
 use lib.ListN.{length}
 use Rattle.answers.specs.Refusals.{Refusal, number, place, broken-layout, no-tree, unreached, oversize, too-short}
 use Rattle.answers.specs.Buffers.{over}
-use Rattle.grammar.specs.Words.{Grammar, layout, reads, faults}
+use Rattle.grammar.specs.Words.{Grammar, R, layout, reads, faults}
 use Rattle.grammar.specs.Refusals.{Lowest, NoTree, AllTrees, Unreached, AllReached, Oversize, AllFit, Accepted}
 use Rattle.tables.specs.Table.{IsTable, HasTable, tableLength}
 use Rattle.tables.specs.declared.TableAnswer.{TableAnswer}
 use Rattle.tables.specs.declared.TableAnswer.the-variants.{Done, Refused}
 use Rattle.tables.specs.declared.TableTest.{TableTest}
-use Rattle.tables.specs.declared.TableTest.the-variants.{Its, NotIts, Broken}
+use Rattle.tables.specs.declared.TableTest.the-variants as test
 
 abbrev pub refused : Refusal → TableAnswer
 refused r = Refused (number r) (place r)
@@ -33,9 +33,21 @@ pub data Tables (words before : List ℕ) : TableAnswer → List ℕ → Type 0 
       tableLength g ≤ length before → IsTable g table →
       Tables words before (Done (tableLength g)) (over table before)
 
--- What `test` promises: whether the first 5N + R words of a lent table are there and are this grammar's table. The words break
--- the layout, or they are a grammar; then 5, 6 and 7 accept it and the table is its table, or not both.
+-- What `test` promises: whether the first 5N + R words of a lent table are there and are this grammar's table, where 4, 5, 6 and 7
+-- accept the grammar; else their refusal, as `tables` has it.
+abbrev pub refusedTest : Refusal → TableTest
+refusedTest r = test.Refused (number r) (place r)
+
 pub data Tested (words table : List ℕ) : TableTest → Type 0 where
-  broken : {p : ℕ} → layout words ≡ faults p → Tested words table (Broken p)
-  its : {g : Grammar} → layout words ≡ reads g → Accepted g → HasTable g table → Tested words table Its
-  not-its : {g : Grammar} → layout words ≡ reads g → ¬ (Accepted g × HasTable g table) → Tested words table NotIts
+  test-4 : {p : ℕ} → layout words ≡ faults p →
+      Tested words table (refusedTest (broken-layout p))
+  test-5 : {g : Grammar} {A : ℕ} → layout words ≡ reads g → Lowest (NoTree g) A →
+      Tested words table (refusedTest (no-tree A))
+  test-6 : {g : Grammar} {A : ℕ} → layout words ≡ reads g → AllTrees g → Lowest (Unreached g) A →
+      Tested words table (refusedTest (unreached A))
+  test-7 : {g : Grammar} {r : ℕ} → layout words ≡ reads g → AllTrees g → AllReached g → Lowest (Oversize g) r →
+      Tested words table (refusedTest (oversize r))
+  its : {g : Grammar} → layout words ≡ reads g → Accepted g → HasTable g table →
+      Tested words table (test.Its (R g))
+  not-its : {g : Grammar} → layout words ≡ reads g → Accepted g → ¬ HasTable g table →
+      Tested words table test.NotIts

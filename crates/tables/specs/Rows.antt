@@ -4,24 +4,17 @@
 use Prim.Native.Nat.{ℕ, _<_}
 use mathlib.Core.Path.{_≡_}
 use mathlib.Core.List.{List}
-use Rattle.grammar.specs.Words.{Grammar, R, layout, reads}
+use Rattle.grammar.specs.Words.{Grammar}
 use Rattle.tables.specs.Figures.{Has, LeastsDone, SizesOf, ContextsRest}
 use Rattle.grammar.proofs.RulesInView.{View}
 
--- 4 is passed: the words are a grammar with these numbers
-pub record Read (ws : List ℕ) (n start rules : ℕ) : Type 0 where
-  pub grammar : Grammar
-  pub is : layout ws ≡ reads grammar
-  pub nonterminals : n ≡ grammar .N
-  pub first : start ≡ grammar .start
-  pub all-rules : rules ≡ R grammar
-
--- and so is 5: every nonterminal has a least
-pub record Grown (ws starts : List ℕ) (n start rules : ℕ) (vs : List ℕ) : Type 0 where
+-- 4 and 5 are passed: every nonterminal has a least, and the rules have their sizes by them
+pub record Grown (ws starts : List ℕ) (n start rules : ℕ) (vs sizes : List ℕ) : Type 0 where
   pub grammar : Grammar
   pub view : View ws starts n rules grammar
   pub first : start ≡ grammar .start
   pub leasts : LeastsDone grammar vs
+  pub sizes-are : SizesOf grammar vs sizes
 
 -- the contexts are at rest over the leasts vs, and no nonterminal is without
 pub record ContextsDone (g : Grammar) (vs us : List ℕ) : Type 0 where

@@ -1,11 +1,11 @@
 -- For the private functions: the words of the table, by their indexes, as they stand in the arrays that it is worked out in.
 -- Nobody has to believe this file; the promises do not cite it.
 -- Assumes nothing.
-use Prim.Native.Nat.{ℕ, zero, suc, _+_, _-_, _*_, _/_, _%_, _<_}
+use Prim.Native.Nat.{ℕ, zero, suc, _+_, _-_, _*_, _/_, _%_, _≤_}
 use mathlib.Core.Bool.{Bool, true, false}
-use mathlib.Core.List.{List, [], _∷_}
+use mathlib.Core.List.{List, [], _∷_, _++_}
 use lib.Dec.{ltb, eqb}
-use lib.ListN.{getD}
+use lib.ListN.{length, getD, set, take, drop}
 use Rattle.tables.specs.Figures.{figure}
 
 -- a list of n words, by index
@@ -37,3 +37,19 @@ fiveWord leasts chosen contexts places A (suc (suc (suc (suc j)))) = contextPlac
 abbrev pub tableWord : ℕ → List ℕ → List ℕ → List ℕ → List ℕ → List ℕ → ℕ → ℕ
 tableWord n leasts chosen contexts places totals i =
     orElse (ltb i (5 * n)) (fiveWord leasts chosen contexts places (i / 5) (i % 5)) (getD totals (i - 5 * n) 0)
+
+-- five words, stored from an index on
+abbrev pub storeFive : (ℕ → ℕ) → ℕ → List ℕ → List ℕ
+storeFive f at xs = set (set (set (set (set xs at (f 0)) (at + 1) (f 1)) (at + 2) (f 2)) (at + 3) (f 3)) (at + 4) (f 4)
+
+-- each array has a place for each of n nonterminals
+pub record Room (n : ℕ) (leasts chosen contexts places : List ℕ) : Type 0 where
+  pub of-leasts : n ≤ length leasts
+  pub of-chosen : n ≤ length chosen
+  pub of-contexts : n ≤ length contexts
+  pub of-places : n ≤ length places
+
+-- a buffer with the first i words of the table in front
+abbrev pub writtenTo : ℕ → List ℕ → List ℕ → List ℕ → List ℕ → List ℕ → ℕ → List ℕ → ℕ → List ℕ
+writtenTo n leasts chosen contexts places totals rules before i =
+    take i (tabulate (tableWord n leasts chosen contexts places totals) (5 * n + rules)) ++ drop i before

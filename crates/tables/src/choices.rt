@@ -34,7 +34,7 @@ fn choose_rule(left: usize, size: u32, r: u16, leasts: &[u16], chosen: &mut [u16
 // The first rule of each nonterminal whose size is its least.
 pub fn choose_rules(
     words: &[u16],
-    starts: &[usize; 256],
+    starts: &[u16; 256],
     rules: usize,
     leasts: &[u16],
     sizes: &[u32; 256],
@@ -47,7 +47,8 @@ pub fn choose_rules(
 {
     let mut r = 0;
     while r < rules {
-        choose_rule(word(words, starts[r]), sizes[r], r as u16, leasts, chosen);
+        let at = rules::index(starts, r);
+        choose_rule(word(words, at), sizes[r], r as u16, leasts, chosen);
         r += 1;
     }
 }
@@ -63,12 +64,15 @@ fn choose_place(
     contexts: &[u16],
     places: &mut [u16],
 )
+    requires { ⌜ (n ≤ length (now leasts)) × ((n ≤ length (now contexts)) × (n ≤ length (now places))) ⌝ }
     ensures { λ _. ⌜ NotedWhere ((s < n) × (figure (now (leasts .entry)) s + figure (now (contexts .entry)) s ≡ total))
         (now (places .entry)) s place (now (places .exit)) ⌝ }
 {
     if s < n {
-        if figure_at(leasts, s) + figure_at(contexts, s) == total as usize {
-            note(places, s, place);
+        if (leasts[s] as usize) + (contexts[s] as usize) == total as usize {
+            if places[s] == NONE {
+                places[s] = place;
+            }
         }
     }
 }
@@ -84,6 +88,7 @@ fn choose_places_of(
     places: &mut [u16],
 )
     requires { ⌜ (length (now symbols) ≤ 32) × (r < 256) ⌝ }
+    requires { ⌜ (n ≤ length (now leasts)) × ((n ≤ length (now contexts)) × (n ≤ length (now places))) ⌝ }
     ensures { λ _. ⌜ PlacesNoted (now (symbols .entry)) n r total
         (now (leasts .entry)) (now (contexts .entry)) (now (places .entry)) (now (places .exit)) ⌝ }
 {
@@ -105,7 +110,7 @@ fn choose_places_of(
 // The first rule and place of each nonterminal that give its context, as one number.
 pub fn choose_places(
     words: &[u16],
-    starts: &[usize; 256],
+    starts: &[u16; 256],
     n: usize,
     rules: usize,
     leasts: &[u16],
@@ -114,6 +119,7 @@ pub fn choose_places(
     places: &mut [u16],
 )
     requires { ⌜ rules ≤ 256 ⌝ }
+    requires { ⌜ (n ≤ length (now leasts)) × ((n ≤ length (now contexts)) × (n ≤ length (now places))) ⌝ }
     requires { ⌜ ((g : Grammar) × View (now words) (now starts) n rules g) ⌝ }
     ensures { λ _. ⌜ ((g : Grammar) → View (now (words .entry)) (now (starts .entry)) n rules g →
         Empty (now (places .entry)) →
@@ -122,7 +128,7 @@ pub fn choose_places(
     let mut r = 0;
     while r < rules {
         choose_places_of(
-            rules::right(words, starts[r]),
+            rules::right(words, rules::index(starts, r)),
             n,
             r,
             totals[r],

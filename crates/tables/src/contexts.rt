@@ -1,19 +1,19 @@
-// The contexts, by rounds over all rules until nothing falls; and the totals by them.
+// The contexts, by rounds over all rules until nothing falls; and the totals by them. A rule that was tried lowers nothing more
+// until the context of its left side falls: that context is kept for each rule, and while it stands the rule is passed over.
 ghost use mathlib.Core.Path.{_≡_};
 ghost use Prim.Native.Nat.{ℕ, _≤_, _<_};
 ghost use lib.ListN.{length};
 ghost use Rattle.grammar.specs.Words.{Grammar};
-ghost use Rattle.tables.specs.Figures.{Fallen, Round, SizesOf, LeastsDone};
+ghost use Rattle.tables.specs.Figures.{Fallen, SizesOf, LeastsDone};
 ghost use Rattle.grammar.proofs.RulesInView.{View};
-ghost use Rattle.tables.specs.Figures.{ContextsSound, ContextQuiet, ContextsRest, TotalsOf};
-ghost use Rattle.tables.specs.ContextSteps.{PlaceStep, PlacesStep, ContextStep, Known};
+ghost use Rattle.tables.specs.Figures.{ContextsSound, ContextsRest, TotalsOf};
+ghost use Rattle.tables.specs.ContextSteps.{PlaceStep, PlacesStep, ContextStep, SeenRound, Known};
 use crate::chains::context_turn;
 use crate::chains::note_rules;
 use crate::figures::NONE;
 use crate::figures::cap;
 use crate::figures::figure_at;
 use crate::figures::in_turn;
-use crate::figures::lower;
 use grammar::rules;
 use grammar::words::word;
 
@@ -27,16 +27,22 @@ fn widened(size: u32) -> usize
 // Lowers the context of the symbol s of a rule, where whole is the rule's size and the context of its left side: the symbol's own
 // least is taken off again. How many figures fell.
 fn lower_context(s: usize, n: usize, whole: usize, leasts: &[u16], contexts: &mut [u16]) -> usize
+    requires { ⌜ (n ≤ length (now leasts)) × (n ≤ length (now contexts)) ⌝ }
     ensures { λ r. ⌜ PlaceStep n whole (now (leasts .entry)) s (now (contexts .entry)) (now (contexts .exit)) r ⌝ }
 {
     if n <= s {
         return 0;
     }
-    let least = figure_at(leasts, s);
+    let least = leasts[s] as usize;
     if whole < least {
         return 0;
     }
-    lower(contexts, s, cap(whole - least))
+    let to = cap(whole - least);
+    if to < contexts[s] {
+        contexts[s] = to;
+        return 1;
+    }
+    0
 }
 
 // The same for each symbol of a rule.
@@ -48,6 +54,7 @@ fn lower_contexts(
     contexts: &mut [u16],
 ) -> usize
     requires { ⌜ length (now symbols) ≤ 65535 ⌝ }
+    requires { ⌜ (n ≤ length (now leasts)) × (n ≤ length (now contexts)) ⌝ }
     ensures { λ r. ⌜ PlacesStep n whole (now (leasts .entry)) (now (symbols .entry)) (now (contexts .entry))
         (now (contexts .exit)) r ⌝ }
 {
@@ -60,49 +67,73 @@ fn lower_contexts(
     fell
 }
 
-// The same for a rule of a left side that has a context.
+// The same for rule r, where it was not tried yet with the context that its left side has.
 pub fn context_of_rule(
     left: usize,
     symbols: &[u16],
     n: usize,
     size: u32,
+    r: usize,
+    seen: &mut [u16],
     leasts: &[u16],
     contexts: &mut [u16],
 ) -> usize
-    requires { ⌜ length (now symbols) ≤ 65535 ⌝ }
-    ensures { λ r. ⌜ ContextStep n size (now (leasts .entry)) left (now (symbols .entry)) (now (contexts .entry))
-        (now (contexts .exit)) r ⌝ }
+    requires { ⌜ (length (now symbols) ≤ 65535) × ((left < length (now contexts)) × (r < length (now seen))) ⌝ }
+    requires { ⌜ (n ≤ length (now leasts)) × (n ≤ length (now contexts)) ⌝ }
+    ensures { λ fell. ⌜ ContextStep n size (now (leasts .entry)) r left (now (symbols .entry)) (now (contexts .entry))
+        (now (seen .entry)) (now (contexts .exit)) (now (seen .exit)) fell ⌝ }
 {
-    let context = figure_at(contexts, left);
-    if context == NONE as usize {
+    let context = contexts[left];
+    if context == seen[r] {
         return 0;
     }
-    lower_contexts(symbols, n, context + widened(size), leasts, contexts)
+    seen[r] = context;
+    lower_contexts(
+        symbols,
+        n,
+        (context as usize) + widened(size),
+        leasts,
+        contexts,
+    )
 }
 
 // A round over all rules, from the first to the last or back; how many figures fell.
 fn context_round(
     words: &[u16],
-    starts: &[usize; 256],
+    starts: &[u16; 256],
     n: usize,
     rules: usize,
     sizes: &[u32; 256],
     owned: &[u16],
+    seen: &mut [u16],
     up: bool,
     leasts: &[u16],
     contexts: &mut [u16],
 ) -> usize
-    requires { ⌜ (rules ≤ 256) × (128 ≤ length (now contexts)) ⌝ }
+    requires { ⌜ (rules ≤ 256) × ((256 ≤ length (now seen)) × (128 ≤ length (now contexts))) ⌝ }
+    requires { ⌜ ((g : Grammar) × Known (now words) (now starts) n rules (now sizes) (now leasts) g) ⌝ }
     ensures { λ r. ⌜ Fallen (now (contexts .entry)) (now (contexts .exit)) r ⌝ }
     ensures { λ r. ⌜ ((g : Grammar) →
         Known (now (words .entry)) (now (starts .entry)) n rules (now (sizes .entry)) (now (leasts .entry)) g →
-        Round (ContextsSound g) (ContextQuiet g (now (leasts .entry))) rules (now (contexts .entry)) (now (contexts .exit)) r) ⌝ }
+        SeenRound g (now (leasts .entry)) rules (now (contexts .entry)) (now (seen .entry))
+        (now (contexts .exit)) (now (seen .exit)) r) ⌝ }
 {
     let mut fell = 0;
     let mut i = 0;
     while i < rules {
         let r = in_turn(i, rules, up);
-        fell += context_turn(words, starts, n, rules, sizes, owned, r, leasts, contexts);
+        fell += context_turn(
+            words,
+            starts,
+            n,
+            rules,
+            sizes,
+            owned,
+            seen,
+            r,
+            leasts,
+            contexts,
+        );
         i += 1;
     }
     fell
@@ -111,7 +142,7 @@ fn context_round(
 // Rounds up and down in turn until one changes nothing.
 pub fn context_rounds(
     words: &[u16],
-    starts: &[usize; 256],
+    starts: &[u16; 256],
     n: usize,
     rules: usize,
     sizes: &[u32; 256],
@@ -119,16 +150,29 @@ pub fn context_rounds(
     contexts: &mut [u16],
 )
     requires { ⌜ (rules ≤ 256) × (128 ≤ length (now contexts)) ⌝ }
+    requires { ⌜ ((g : Grammar) × Known (now words) (now starts) n rules (now sizes) (now leasts) g) ⌝ }
     ensures { λ _. ⌜ ((g : Grammar) → View (now (words .entry)) (now (starts .entry)) n rules g →
         LeastsDone g (now (leasts .entry)) → SizesOf g (now (leasts .entry)) (now (sizes .entry)) →
         ContextsSound g (now (contexts .entry)) → ContextsRest g (now (leasts .entry)) (now (contexts .exit))) ⌝ }
 {
     let mut owned = [NONE; 128];
     note_rules(words, starts, rules, &mut owned);
+    let mut seen = [NONE; 256];
     let mut fell = 1;
     let mut up = true;
     while 0 < fell {
-        fell = context_round(words, starts, n, rules, sizes, &owned, up, leasts, contexts);
+        fell = context_round(
+            words,
+            starts,
+            n,
+            rules,
+            sizes,
+            &owned,
+            &mut seen,
+            up,
+            leasts,
+            contexts,
+        );
         up = !up;
     }
 }
@@ -136,7 +180,7 @@ pub fn context_rounds(
 // The total of each rule, cut at 4,097.
 pub fn rule_totals(
     words: &[u16],
-    starts: &[usize; 256],
+    starts: &[u16; 256],
     rules: usize,
     sizes: &[u32; 256],
     contexts: &[u16],
@@ -148,7 +192,7 @@ pub fn rule_totals(
 {
     let mut r = 0;
     while r < rules {
-        let left = word(words, starts[r]);
+        let left = word(words, rules::index(starts, r));
         totals[r] = cap(figure_at(contexts, left) + widened(sizes[r]));
         r += 1;
     }

@@ -1,15 +1,14 @@
 // The leasts, by rounds over all rules until nothing falls; and the sizes of the rules by them.
-ghost use Prim.Native.Nat.{_≤_};
+ghost use Prim.Native.Nat.{_≤_, _<_};
 ghost use lib.ListN.{length};
 ghost use Rattle.grammar.specs.Words.{Grammar};
-ghost use Rattle.tables.specs.Figures.{Fallen, Round, LeastsSound, LeastQuiet, LeastsRest, LeastsDone, SizesOf};
+ghost use Rattle.tables.specs.Figures.{Fallen, Round, LeastsSound};
 ghost use Rattle.grammar.proofs.RulesInView.{View};
-ghost use Rattle.tables.specs.LeastSteps.{SymbolSize, Sized, LeastStep, SizeWhere};
+ghost use Rattle.tables.specs.LeastSteps.{QuietIfSound, Sized, LeastStep, SizeStep, Rounded, Settled, LeastsSized};
 use crate::chains::least_turn;
 use crate::chains::note_users;
 use crate::figures::NONE;
 use crate::figures::cap;
-use crate::figures::figure_at;
 use crate::figures::in_turn;
 use crate::figures::lower;
 use grammar::rules;
@@ -20,37 +19,38 @@ pub enum Size {
     NotYet,
 }
 
-// A symbol's size; NONE where it has none yet.
-fn symbol_size(s: usize, n: usize, leasts: &[u16]) -> usize
-    ensures { λ r. ⌜ SymbolSize n (now (leasts .entry)) s r ⌝ }
-    ensures { λ r. ⌜ r ≤ 65535 ⌝ }
-{
-    if s < n { figure_at(leasts, s) } else { 1 }
-}
-
 // The size of a rule with these symbols. The figures are added before any cut.
 fn rule_size(symbols: &[u16], n: usize, leasts: &[u16]) -> Size
-    requires { ⌜ length (now symbols) ≤ 65535 ⌝ }
+    requires { ⌜ (length (now symbols) ≤ 65535) × (n ≤ length (now leasts)) ⌝ }
     ensures { λ r. ⌜ Sized n (now (leasts .entry)) (now (symbols .entry)) r ⌝ }
 {
     let mut sum: usize = 1;
     let mut i = 0;
     while i < symbols.len() {
-        let size = symbol_size(symbols[i] as usize, n, leasts);
-        if size == NONE as usize {
-            return Size::NotYet;
+        let s = symbols[i] as usize;
+        if s < n {
+            let size = leasts[s] as usize;
+            if size == NONE as usize {
+                return Size::NotYet;
+            }
+            sum += size;
+        } else {
+            sum += 1;
         }
-        sum += size;
         i += 1;
     }
     Size::Of(sum)
 }
 
-// Lowers the least of a rule's left side to the rule's size; how many figures fell.
+// Lowers the least of a rule's left side to the rule's size; how many figures fell. A symbol's size is 1 at least, so that a rule
+// with too many symbols need not be summed.
 pub fn lower_least(left: usize, symbols: &[u16], n: usize, leasts: &mut [u16]) -> usize
-    requires { ⌜ length (now symbols) ≤ 65535 ⌝ }
+    requires { ⌜ (length (now symbols) ≤ 65535) × (left < length (now leasts)) × (n ≤ length (now leasts)) ⌝ }
     ensures { λ r. ⌜ LeastStep left (now (symbols .entry)) n (now (leasts .entry)) (now (leasts .exit)) r ⌝ }
 {
+    if leasts[left] as usize <= symbols.len() + 1 {
+        return 0;
+    }
     match rule_size(symbols, n, leasts) {
         Size::NotYet => 0,
         Size::Of(size) => lower(leasts, left, cap(size)),
@@ -60,7 +60,7 @@ pub fn lower_least(left: usize, symbols: &[u16], n: usize, leasts: &mut [u16]) -
 // A round over all rules, from the first to the last or back; how many figures fell.
 fn least_round(
     words: &[u16],
-    starts: &[usize; 256],
+    starts: &[u16; 256],
     n: usize,
     rules: usize,
     users: &[u16],
@@ -68,9 +68,10 @@ fn least_round(
     leasts: &mut [u16],
 ) -> usize
     requires { ⌜ (rules ≤ 256) × (128 ≤ length (now leasts)) ⌝ }
+    requires { ⌜ ((g : Grammar) × View (now words) (now starts) n rules g) ⌝ }
     ensures { λ r. ⌜ Fallen (now (leasts .entry)) (now (leasts .exit)) r ⌝ }
     ensures { λ r. ⌜ ((g : Grammar) → View (now (words .entry)) (now (starts .entry)) n rules g →
-        Round (LeastsSound g) (LeastQuiet g) rules (now (leasts .entry)) (now (leasts .exit)) r) ⌝ }
+        Round (LeastsSound g) (QuietIfSound g) rules (now (leasts .entry)) (now (leasts .exit)) r) ⌝ }
 {
     let mut fell = 0;
     let mut i = 0;
@@ -82,55 +83,107 @@ fn least_round(
     fell
 }
 
-// Rounds down and up in turn until one changes nothing.
-pub fn least_rounds(
+// Rounds up and down in turn, after one down in which so many figures fell, until one changes nothing.
+fn more_rounds(
     words: &[u16],
-    starts: &[usize; 256],
+    starts: &[u16; 256],
     n: usize,
     rules: usize,
+    users: &[u16],
+    first: usize,
     leasts: &mut [u16],
 )
     requires { ⌜ (rules ≤ 256) × (128 ≤ length (now leasts)) ⌝ }
+    requires { ⌜ ((g : Grammar) × View (now words) (now starts) n rules g) ⌝ }
     ensures { λ _. ⌜ ((g : Grammar) → View (now (words .entry)) (now (starts .entry)) n rules g →
-        LeastsSound g (now (leasts .entry)) → LeastsRest g (now (leasts .exit))) ⌝ }
+        Rounded g rules (now (leasts .entry)) first → Rounded g rules (now (leasts .exit)) 0) ⌝ }
 {
-    let mut users = [NONE; 128];
-    note_users(words, starts, rules, &mut users);
-    let mut fell = 1;
-    let mut up = false;
+    let mut fell = first;
+    let mut up = true;
     while 0 < fell {
-        fell = least_round(words, starts, n, rules, &users, up, leasts);
+        fell = least_round(words, starts, n, rules, users, up, leasts);
         up = !up;
     }
 }
 
-// The size of each rule, where every nonterminal has a least.
-pub fn rule_sizes(
+// Notes the size of rule r, if it has one; whether it is not below the least of the rule's left side.
+fn size_settles(
+    left: usize,
+    symbols: &[u16],
+    n: usize,
+    leasts: &[u16],
+    r: usize,
+    sizes: &mut [u32],
+) -> bool
+    requires { ⌜ (length (now symbols) ≤ 65535) × (left < length (now leasts)) × (n ≤ length (now leasts)) ⌝ }
+    requires { ⌜ r < length (now sizes) ⌝ }
+    ensures { λ b. ⌜ SizeStep left (now (symbols .entry)) n (now (leasts .entry)) r (now (sizes .entry)) (now (sizes .exit)) b ⌝ }
+{
+    match rule_size(symbols, n, leasts) {
+        Size::NotYet => true,
+        Size::Of(size) => {
+            if cap(size) < leasts[left] {
+                return false;
+            }
+            sizes[r] = size as u32;
+            true
+        }
+    }
+}
+
+// The size of each rule by the leasts; whether none is below the least of its left side.
+fn sizes_settle(
     words: &[u16],
-    starts: &[usize; 256],
+    starts: &[u16; 256],
     n: usize,
     rules: usize,
     leasts: &[u16],
     sizes: &mut [u32],
-)
-    requires { ⌜ (rules ≤ 256) × (256 ≤ length (now sizes)) ⌝ }
-    ensures { λ _. ⌜ ((g : Grammar) → View (now (words .entry)) (now (starts .entry)) n rules g →
-        LeastsDone g (now (leasts .entry)) → SizesOf g (now (leasts .entry)) (now (sizes .exit))) ⌝ }
+) -> bool
+    requires { ⌜ (rules ≤ 256) × (128 ≤ length (now leasts)) × (256 ≤ length (now sizes)) ⌝ }
+    requires { ⌜ ((g : Grammar) × View (now words) (now starts) n rules g) ⌝ }
+    ensures { λ b. ⌜ ((g : Grammar) → View (now (words .entry)) (now (starts .entry)) n rules g →
+        Settled g (now (leasts .entry)) (now (sizes .exit)) rules b) ⌝ }
 {
     let mut r = 0;
     while r < rules {
-        sizes[r] = size_or_none(rules::right(words, starts[r]), n, leasts);
+        let at = rules::index(starts, r);
+        if !size_settles(
+            words[at] as usize,
+            rules::right(words, at),
+            n,
+            leasts,
+            r,
+            sizes,
+        ) {
+            return false;
+        }
         r += 1;
     }
+    true
 }
 
-// A rule's size; 0 where it has none, which none is.
-fn size_or_none(symbols: &[u16], n: usize, leasts: &[u16]) -> u32
-    requires { ⌜ length (now symbols) ≤ 65535 ⌝ }
-    ensures { λ r. ⌜ SizeWhere n (now (leasts .entry)) (now (symbols .entry)) r ⌝ }
+// Rounds until one changes nothing, and the sizes of the rules. Where the first round leaves nothing to lower, the sizes say so,
+// and there is no second.
+pub fn least_rounds(
+    words: &[u16],
+    starts: &[u16; 256],
+    n: usize,
+    rules: usize,
+    leasts: &mut [u16],
+    sizes: &mut [u32],
+)
+    requires { ⌜ (rules ≤ 256) × (128 ≤ length (now leasts)) × (256 ≤ length (now sizes)) ⌝ }
+    requires { ⌜ ((g : Grammar) × View (now words) (now starts) n rules g) ⌝ }
+    ensures { λ _. ⌜ ((g : Grammar) → View (now (words .entry)) (now (starts .entry)) n rules g →
+        LeastsSound g (now (leasts .entry)) → LeastsSized g (now (leasts .exit)) (now (sizes .exit))) ⌝ }
 {
-    match rule_size(symbols, n, leasts) {
-        Size::Of(size) => size as u32,
-        Size::NotYet => 0,
+    let mut users = [NONE; 128];
+    note_users(words, starts, rules, &mut users);
+    let fell = least_round(words, starts, n, rules, &users, false, leasts);
+    if sizes_settle(words, starts, n, rules, leasts, sizes) {
+        return;
     }
+    more_rounds(words, starts, n, rules, &users, fell, leasts);
+    sizes_settle(words, starts, n, rules, leasts, sizes);
 }

@@ -11,14 +11,12 @@ mod worked_out;
 mod written;
 
 ghost use mathlib.Core.Path.{_≡_};
-ghost use Rattle.grammar.specs.Refusals.{Accepted};
-ghost use Rattle.tables.specs.Table.{HasTable};
+ghost use Rattle.grammar.specs.Words.{layout};
+ghost use Rattle.grammar.specs.Judge.{answerOf, startsRead};
 ghost use Rattle.tables.specs.Promise.{Tables, Tested};
-ghost use Rattle.tables.specs.Rows.{Read};
-ghost use Rattle.tables.specs.Tests.{Says};
+ghost use Rattle.grammar.proofs.RulesInView.{Begun};
 use grammar::layout;
 use grammar::layout::LayoutAnswer;
-use grammar::rules;
 
 // What `tables` answers: the number of words written, or the refusal's number and place.
 pub enum TableAnswer {
@@ -26,19 +24,20 @@ pub enum TableAnswer {
     Refused { number: u16, place: usize },
 }
 
-// What `test` answers: the table is this grammar's, or it is not or 5, 6 or 7 would refuse the grammar, or the words break
-// the layout at a place.
+// What `test` answers: the table is that of the grammar, which has so many rules; it is not; or the words or the grammar are refused,
+// by 4, 5, 6 or 7, with the number and the place.
 pub enum TableTest {
-    Its,
+    Its { rules: usize },
     NotIts,
-    Broken { place: usize },
+    Refused { number: u16, place: usize },
 }
 
 // Writes the table of the grammar that the words are into the front of table. Done carries how many words were written.
 pub fn tables(words: &[u16], table: &mut [u16]) -> TableAnswer
     ensures { λ r. ⌜ Tables (now (words .entry)) (now (table .entry)) r (now (table .exit)) ⌝ }
 {
-    match layout::judge(words) {
+    let mut starts = [0u16; 256];
+    match layout::read(words, &mut starts) {
         LayoutAnswer::Fault { place } => TableAnswer::Refused {
             number: answers::BROKEN_LAYOUT,
             place,
@@ -48,35 +47,59 @@ pub fn tables(words: &[u16], table: &mut [u16]) -> TableAnswer
             terminals: _,
             start,
             rules,
-        } => worked_out::of_grammar(words, nonterminals, start, rules, table),
+        } => worked_out::of_grammar(words, &starts, nonterminals, start, rules, table),
     }
 }
 
-// Whether the first words of table are the table of the grammar that the words are.
-pub fn test(words: &[u16], table: &[u16]) -> TableTest
+// Whether the first words of table are the table of the grammar that the words are. What `layout::read` leaves in starts stays there.
+pub fn test(words: &[u16], table: &[u16], starts: &mut [u16; 256]) -> TableTest
     ensures { λ r. ⌜ Tested (now (words .entry)) (now (table .entry)) r ⌝ }
+    ensures { λ _. ⌜ now (starts .exit) ≡
+        startsRead (now (words .entry)) (now (starts .entry)) (answerOf (layout (now (words .entry)))) ⌝ }
 {
-    match layout::judge(words) {
-        LayoutAnswer::Fault { place } => TableTest::Broken { place },
+    match layout::read(words, starts) {
+        LayoutAnswer::Fault { place } => TableTest::Refused {
+            number: answers::BROKEN_LAYOUT,
+            place,
+        },
         LayoutAnswer::Grammar {
             nonterminals,
             terminals: _,
             start,
             rules,
-        } => test_grammar(words, nonterminals, start, rules, table),
+        } => test_grammar(words, starts, nonterminals, start, rules, table),
     }
 }
 
-// The same of words that are a grammar.
-fn test_grammar(words: &[u16], n: usize, start: usize, rules: usize, table: &[u16]) -> TableTest
-    requires { ⌜ Read (now words) n start rules ⌝ }
+// The same of words that are a grammar. Only where the table is not its own is one worked out, for 5, 6 and 7, and with no room to
+// write it: 3 says that they are passed.
+fn test_grammar(
+    words: &[u16],
+    starts: &[u16; 256],
+    n: usize,
+    start: usize,
+    rules: usize,
+    table: &[u16],
+) -> TableTest
+    requires { ⌜ Begun (now words) (now starts) n start rules ⌝ }
     ensures { λ r. ⌜ Tested (now (words .entry)) (now (table .entry)) r ⌝ }
 {
-    let mut starts = [0usize; 256];
-    rules::find(words, &mut starts);
-    if passes::passes(words, &starts, n, start, rules, table) {
-        TableTest::Its
-    } else {
-        TableTest::NotIts
+    if passes::passes(words, starts, n, start, rules, table) {
+        return TableTest::Its { rules };
     }
+    let mut none = [0u16; 0];
+    match worked_out::of_grammar(words, starts, n, start, rules, &mut none) {
+        TableAnswer::Done(_) => TableTest::NotIts,
+        TableAnswer::Refused { number, place } => not_its(number, place),
+    }
+}
+
+// Of a table that is not its own: what a table without room is refused with, but for 3.
+fn not_its(number: u16, place: usize) -> TableTest
+    ensures { λ r. ⌜ (number ≡ 3 → r ≡ TableTest.NotIts) × (¬ (number ≡ 3) → r ≡ TableTest.Refused number place) ⌝ }
+{
+    if number == answers::TOO_SHORT {
+        return TableTest::NotIts;
+    }
+    TableTest::Refused { number, place }
 }

@@ -3,7 +3,7 @@
 // total of each rule that names it, and where they come to as much the stored rule and place do not come after.
 ghost use mathlib.Core.Path.{_≡_};
 ghost use Prim.Native.Nat.{_+_, _*_, _≤_, _<_};
-ghost use lib.ListN.{length};
+ghost use lib.ListN.{length, getD};
 ghost use Rattle.grammar.specs.Words.{Grammar};
 ghost use Rattle.grammar.specs.Refusals.{Accepted};
 ghost use Rattle.tables.specs.Table.{HasTable, entry};
@@ -11,7 +11,6 @@ ghost use Rattle.grammar.proofs.RulesInView.{View};
 ghost use Rattle.tables.specs.Tests.{Says, Answer, PlacePasses, SizePasses, LeftPasses, RuleAnswer, RulesPass};
 ghost use Rattle.tables.specs.Tests.{ChosenPasses, ContextPasses, StartPasses, ChoicePasses, ChoicesPass};
 use grammar::rules;
-use grammar::words::word;
 
 // The largest total that is accepted.
 const LIMIT: usize = 4096;
@@ -32,16 +31,16 @@ const PLACE: usize = 4;
 
 // One of the five words of a.
 fn five(table: &[u16], a: usize, which: usize) -> usize
-    requires { ⌜ (a < 65536) × (which < 5) ⌝ }
+    requires { ⌜ 5 * a + which < length (now table) ⌝ }
     ensures { λ r. ⌜ r ≡ entry (now (table .entry)) a which ⌝ }
     ensures { λ r. ⌜ r < 65536 ⌝ }
 {
-    word(table, 5 * a + which)
+    table[5 * a + which] as usize
 }
 
 // Whether one place of a rule leaves the context of the symbol s right.
 fn place_passes(s: usize, number: usize, place: usize, total: usize, table: &[u16]) -> bool
-    requires { ⌜ s < 65536 ⌝ }
+    requires { ⌜ 5 * s + 5 ≤ length (now table) ⌝ }
     ensures { λ r. ⌜ Says r (PlacePasses (now (table .entry)) s number place total) ⌝ }
 {
     let whole = five(table, s, LEAST) + five(table, s, CONTEXT);
@@ -57,7 +56,7 @@ fn place_passes(s: usize, number: usize, place: usize, total: usize, table: &[u1
 
 // 1 and the sizes of a rule's symbols; 0 where one of its places does not pass.
 fn size_passes(symbols: &[u16], n: usize, number: usize, total: usize, table: &[u16]) -> usize
-    requires { ⌜ length (now symbols) ≤ 65535 ⌝ }
+    requires { ⌜ (length (now symbols) ≤ 65535) × (5 * n ≤ length (now table)) ⌝ }
     ensures { λ r. ⌜ SizePasses (now (table .entry)) n number total (now (symbols .entry)) r ⌝ }
     ensures { λ r. ⌜ r ≤ 1 + 65535 * 65535 ⌝ }
 {
@@ -80,7 +79,7 @@ fn size_passes(symbols: &[u16], n: usize, number: usize, total: usize, table: &[
 
 // Whether a rule of the size and the total leaves the least and the chosen rule of its left side right.
 fn left_passes(left: usize, number: usize, size: usize, total: usize, table: &[u16]) -> bool
-    requires { ⌜ (left < 65536) × (size ≤ 1 + 65535 * 65535) ⌝ }
+    requires { ⌜ (5 * left + 5 ≤ length (now table)) × (size ≤ 1 + 65535 * 65535) ⌝ }
     ensures { λ r. ⌜ Says r (LeftPasses (now (table .entry)) left number size total) ⌝ }
 {
     if five(table, left, CONTEXT) + size != total {
@@ -102,6 +101,7 @@ fn rule_passes(
     total: usize,
     table: &[u16],
 ) -> bool
+    requires { ⌜ (at < length (now words)) × (getD (now words) at 0 < n) × (5 * n ≤ length (now table)) ⌝ }
     ensures { λ r. ⌜ RuleAnswer (now (words .entry)) at n number total (now (table .entry)) r ⌝ }
 {
     if LIMIT < total {
@@ -111,17 +111,25 @@ fn rule_passes(
     if size == 0 {
         return false;
     }
-    left_passes(word(words, at), number, size, total, table)
+    left_passes(words[at] as usize, number, size, total, table)
 }
 
 // Whether every rule passes.
-fn rules_pass(words: &[u16], starts: &[usize; 256], n: usize, rules: usize, table: &[u16]) -> bool
-    requires { ⌜ (n ≤ 128) × (rules ≤ 256) ⌝ }
+fn rules_pass(words: &[u16], starts: &[u16; 256], n: usize, rules: usize, table: &[u16]) -> bool
+    requires { ⌜ (n ≤ 128) × (rules ≤ 256) × (5 * n + rules ≤ length (now table)) ⌝ }
+    requires { ⌜ ((g : Grammar) × View (now words) (now starts) n rules g) ⌝ }
     ensures { λ r. ⌜ Answer (now (words .entry)) (now (starts .entry)) n rules (λ g. RulesPass g (now (table .entry))) r ⌝ }
 {
     let mut r = 0;
     while r < rules {
-        if !rule_passes(words, starts[r], n, r, word(table, 5 * n + r), table) {
+        if !rule_passes(
+            words,
+            rules::index(starts, r),
+            n,
+            r,
+            table[5 * n + r] as usize,
+            table,
+        ) {
             return false;
         }
         r += 1;
@@ -132,42 +140,43 @@ fn rules_pass(words: &[u16], starts: &[usize; 256], n: usize, rules: usize, tabl
 // Whether the chosen rule of a is one of a's, and its total what a's least and context come to.
 fn chosen_passes(
     words: &[u16],
-    starts: &[usize; 256],
+    starts: &[u16; 256],
     n: usize,
     rules: usize,
     a: usize,
     table: &[u16],
 ) -> bool
-    requires { ⌜ (n ≤ 128) × (rules ≤ 256) × (a < n) ⌝ }
+    requires { ⌜ (n ≤ 128) × (rules ≤ 256) × (a < n) × (5 * n + rules ≤ length (now table)) ⌝ }
+    requires { ⌜ ((g : Grammar) × View (now words) (now starts) n rules g) ⌝ }
     ensures { λ r. ⌜ Answer (now (words .entry)) (now (starts .entry)) n rules (λ g. ChosenPasses g (now (table .entry)) a) r ⌝ }
 {
     let chosen = five(table, a, CHOSEN);
     if rules <= chosen {
         return false;
     }
-    if word(words, starts[chosen]) != a {
+    if words[rules::index(starts, chosen)] as usize != a {
         return false;
     }
-    word(table, 5 * n + chosen) == five(table, a, LEAST) + five(table, a, CONTEXT)
+    table[5 * n + chosen] as usize == five(table, a, LEAST) + five(table, a, CONTEXT)
 }
 
 // Whether the context rule of a has a at the context place, and its total is what a's least and context come to.
 fn context_passes(
     words: &[u16],
-    starts: &[usize; 256],
+    starts: &[u16; 256],
     n: usize,
     rules: usize,
     a: usize,
     table: &[u16],
 ) -> bool
-    requires { ⌜ (n ≤ 128) × (rules ≤ 256) × (a < n) ⌝ }
+    requires { ⌜ (n ≤ 128) × (rules ≤ 256) × (a < n) × (5 * n + rules ≤ length (now table)) ⌝ }
     ensures { λ r. ⌜ Answer (now (words .entry)) (now (starts .entry)) n rules (λ g. ContextPasses g (now (table .entry)) a) r ⌝ }
 {
     let by = five(table, a, RULE);
     if rules <= by {
         return false;
     }
-    let symbols = rules::right(words, starts[by]);
+    let symbols = rules::right(words, rules::index(starts, by));
     let place = five(table, a, PLACE);
     if symbols.len() <= place {
         return false;
@@ -175,12 +184,12 @@ fn context_passes(
     if symbols[place] as usize != a {
         return false;
     }
-    word(table, 5 * n + by) == five(table, a, LEAST) + five(table, a, CONTEXT)
+    table[5 * n + by] as usize == five(table, a, LEAST) + five(table, a, CONTEXT)
 }
 
 // Whether the context of a, which is the start, is 0, with no rule and no place.
 fn start_passes(a: usize, table: &[u16]) -> bool
-    requires { ⌜ a < 65536 ⌝ }
+    requires { ⌜ 5 * a + 5 ≤ length (now table) ⌝ }
     ensures { λ r. ⌜ Says r (StartPasses (now (table .entry)) a) ⌝ }
 {
     if five(table, a, CONTEXT) != 0 {
@@ -195,14 +204,15 @@ fn start_passes(a: usize, table: &[u16]) -> bool
 // Whether the two choices of a are right.
 fn choice_passes(
     words: &[u16],
-    starts: &[usize; 256],
+    starts: &[u16; 256],
     n: usize,
     start: usize,
     rules: usize,
     a: usize,
     table: &[u16],
 ) -> bool
-    requires { ⌜ (n ≤ 128) × (rules ≤ 256) × (a < n) ⌝ }
+    requires { ⌜ (n ≤ 128) × (rules ≤ 256) × (a < n) × (5 * n + rules ≤ length (now table)) ⌝ }
+    requires { ⌜ ((g : Grammar) × View (now words) (now starts) n rules g) ⌝ }
     ensures { λ r. ⌜ Answer (now (words .entry)) (now (starts .entry)) n rules
         (λ g. ChoicePasses g start (now (table .entry)) a) r ⌝ }
 {
@@ -219,13 +229,14 @@ fn choice_passes(
 // Whether the choices of every nonterminal are right.
 fn choices_pass(
     words: &[u16],
-    starts: &[usize; 256],
+    starts: &[u16; 256],
     n: usize,
     start: usize,
     rules: usize,
     table: &[u16],
 ) -> bool
-    requires { ⌜ (n ≤ 128) × (rules ≤ 256) ⌝ }
+    requires { ⌜ (n ≤ 128) × (rules ≤ 256) × (5 * n + rules ≤ length (now table)) ⌝ }
+    requires { ⌜ ((g : Grammar) × View (now words) (now starts) n rules g) ⌝ }
     ensures { λ r. ⌜ Answer (now (words .entry)) (now (starts .entry)) n rules
         (λ g. ChoicesPass g start (now (table .entry))) r ⌝ }
 {
@@ -242,13 +253,14 @@ fn choices_pass(
 // Whether a table passes all tests: it is long enough, and its choices and its rules are right.
 pub fn passes(
     words: &[u16],
-    starts: &[usize; 256],
+    starts: &[u16; 256],
     n: usize,
     start: usize,
     rules: usize,
     table: &[u16],
 ) -> bool
     requires { ⌜ (n ≤ 128) × (rules ≤ 256) ⌝ }
+    requires { ⌜ ((g : Grammar) × View (now words) (now starts) n rules g) ⌝ }
     ensures { λ r. ⌜ ((g : Grammar) → View (now (words .entry)) (now (starts .entry)) n rules g → start ≡ g .start →
         Says r (Accepted g × HasTable g (now (table .entry)))) ⌝ }
 {

@@ -2,7 +2,8 @@
 // the choices and the words.
 ghost use mathlib.Core.Path.{_≡_};
 ghost use Rattle.tables.specs.Promise.{Tables};
-ghost use Rattle.tables.specs.Rows.{Read, Grown, Placed};
+ghost use Rattle.grammar.proofs.RulesInView.{Begun};
+ghost use Rattle.tables.specs.Rows.{Grown, Placed};
 use crate::TableAnswer;
 use crate::choices::choose_places;
 use crate::choices::choose_rules;
@@ -13,9 +14,7 @@ use crate::figures::NONE;
 use crate::figures::OVER;
 use crate::figures::first_above;
 use crate::leasts::least_rounds;
-use crate::leasts::rule_sizes;
 use crate::written::write;
-use grammar::rules;
 
 // The largest total that is accepted.
 const LIMIT: usize = 4096;
@@ -29,52 +28,51 @@ fn refuse(number: u16, place: usize) -> TableAnswer
 // 5, and what follows.
 pub fn of_grammar(
     words: &[u16],
+    starts: &[u16; 256],
     n: usize,
     start: usize,
     rules: usize,
     table: &mut [u16],
 ) -> TableAnswer
-    requires { ⌜ Read (now words) n start rules ⌝ }
+    requires { ⌜ Begun (now words) (now starts) n start rules ⌝ }
     ensures { λ r. ⌜ Tables (now (words .entry)) (now (table .entry)) r (now (table .exit)) ⌝ }
 {
-    let mut starts = [0usize; 256];
-    rules::find(words, &mut starts);
     let mut leasts = [NONE; 128];
-    least_rounds(words, &starts, n, rules, &mut leasts);
+    let mut sizes = [0u32; 256];
+    least_rounds(words, starts, n, rules, &mut leasts, &mut sizes);
     if let Found::At(a) = first_above(&leasts, n, OVER as usize) {
         return refuse(answers::NO_TREE, a);
     }
-    of_leasts(words, &starts, n, start, rules, &leasts, table)
+    of_leasts(words, starts, n, start, rules, &leasts, &sizes, table)
 }
 
 // 6, and what follows.
 fn of_leasts(
     words: &[u16],
-    starts: &[usize; 256],
+    starts: &[u16; 256],
     n: usize,
     start: usize,
     rules: usize,
     leasts: &[u16],
+    sizes: &[u32; 256],
     table: &mut [u16],
 ) -> TableAnswer
-    requires { ⌜ Grown (now words) (now starts) n start rules (now leasts) ⌝ }
+    requires { ⌜ Grown (now words) (now starts) n start rules (now leasts) (now sizes) ⌝ }
     ensures { λ r. ⌜ Tables (now (words .entry)) (now (table .entry)) r (now (table .exit)) ⌝ }
 {
-    let mut sizes = [0u32; 256];
-    rule_sizes(words, starts, n, rules, leasts, &mut sizes);
     let mut contexts = [NONE; 128];
     contexts[start] = 0;
-    context_rounds(words, starts, n, rules, &sizes, leasts, &mut contexts);
+    context_rounds(words, starts, n, rules, sizes, leasts, &mut contexts);
     if let Found::At(a) = first_above(&contexts, n, OVER as usize) {
         return refuse(answers::UNREACHED, a);
     }
-    of_contexts(words, starts, n, rules, leasts, &sizes, &contexts, table)
+    of_contexts(words, starts, n, rules, leasts, sizes, &contexts, table)
 }
 
 // 7, 3, and the table.
 fn of_contexts(
     words: &[u16],
-    starts: &[usize; 256],
+    starts: &[u16; 256],
     n: usize,
     rules: usize,
     leasts: &[u16],

@@ -1,19 +1,12 @@
 // The table's words, written from the arrays that it is worked out in.
 ghost use mathlib.Core.Path.{_≡_};
-ghost use Prim.Native.Nat.{_+_, _*_, _≤_, _<_};
+ghost use mathlib.Core.List.{List};
+ghost use Prim.Native.Nat.{ℕ, _+_, _*_, _≤_, _<_};
 ghost use lib.ListN.{length};
 ghost use Rattle.answers.specs.Buffers.{over};
-ghost use Rattle.tables.specs.Figures.{figure};
 ghost use Rattle.tables.specs.Written.{contextRule, contextPlace, fiveWord, tableWord, tabulate};
+ghost use Rattle.tables.specs.Written.{storeFive, Room, writtenTo};
 use crate::figures::NONE;
-use crate::figures::figure_at;
-
-// The figure at a, as a word.
-fn word_at(figures: &[u16], a: usize) -> u16
-    ensures { λ r. ⌜ r ≡ figure (now (figures .entry)) a ⌝ }
-{
-    figure_at(figures, a) as u16
-}
 
 // The rule of a rule and a place that are one number; NONE where there is none.
 fn context_rule(number: u16) -> u16
@@ -29,45 +22,62 @@ fn context_place(number: u16) -> u16
     if number == NONE { NONE } else { number % 32 }
 }
 
-// Word j of the five of nonterminal a.
-fn five_word(
+// The five words of nonterminal a.
+fn write_five(
     a: usize,
-    j: usize,
     leasts: &[u16],
     chosen: &[u16],
     contexts: &[u16],
     places: &[u16],
-) -> u16
-    ensures { λ r. ⌜ r ≡ fiveWord (now (leasts .entry)) (now (chosen .entry)) (now (contexts .entry)) (now (places .entry))
-        a j ⌝ }
+    table: &mut [u16],
+)
+    requires { ⌜ (a < 128) × Room (a + 1) (now leasts) (now chosen) (now contexts) (now places) ⌝ }
+    requires { ⌜ 5 * a + 5 ≤ length (now table) ⌝ }
+    ensures { λ _. ⌜ now (table .exit) ≡ storeFive (fiveWord (now (leasts .entry)) (now (chosen .entry)) (now (contexts .entry))
+        (now (places .entry)) a) (5 * a) (now (table .entry)) ⌝ }
 {
-    match j {
-        0 => word_at(leasts, a),
-        1 => word_at(chosen, a),
-        2 => word_at(contexts, a),
-        3 => context_rule(word_at(places, a)),
-        _ => context_place(word_at(places, a)),
-    }
+    let at = 5 * a;
+    let number = places[a];
+    table[at] = leasts[a];
+    table[at + 1] = chosen[a];
+    table[at + 2] = contexts[a];
+    table[at + 3] = context_rule(number);
+    table[at + 4] = context_place(number);
 }
 
-// Word i of the table.
-fn table_word(
-    i: usize,
+// The five words of each of the n nonterminals.
+fn write_fives(
     n: usize,
     leasts: &[u16],
     chosen: &[u16],
     contexts: &[u16],
     places: &[u16],
-    totals: &[u16; 256],
-) -> u16
-    requires { ⌜ (n ≤ 128) × (i < 5 * n + 256) ⌝ }
-    ensures { λ r. ⌜ r ≡ tableWord n (now (leasts .entry)) (now (chosen .entry)) (now (contexts .entry)) (now (places .entry))
-        (now (totals .entry)) i ⌝ }
+    table: &mut [u16],
+)
+    requires { ⌜ (n ≤ 128) × Room n (now leasts) (now chosen) (now contexts) (now places) ⌝ }
+    requires { ⌜ 5 * n ≤ length (now table) ⌝ }
+    ensures { λ _. ⌜ ((totals : List ℕ) (rules : ℕ) → 5 * n + rules ≤ length (now (table .entry)) →
+        now (table .exit) ≡ writtenTo n (now (leasts .entry)) (now (chosen .entry)) (now (contexts .entry))
+        (now (places .entry)) totals rules (now (table .entry)) (5 * n)) ⌝ }
 {
-    if i < 5 * n {
-        five_word(i / 5, i % 5, leasts, chosen, contexts, places)
-    } else {
-        totals[i - 5 * n]
+    let mut a = 0;
+    while a < n {
+        write_five(a, leasts, chosen, contexts, places, table);
+        a += 1;
+    }
+}
+
+// The totals of so many rules, after them.
+fn write_totals(n: usize, rules: usize, totals: &[u16; 256], table: &mut [u16])
+    requires { ⌜ (n ≤ 128) × (rules ≤ 256) × (5 * n + rules ≤ length (now table)) ⌝ }
+    ensures { λ _. ⌜ ((leasts chosen contexts places before : List ℕ) → 5 * n + rules ≤ length before →
+        now (table .entry) ≡ writtenTo n leasts chosen contexts places (now (totals .entry)) rules before (5 * n) →
+        now (table .exit) ≡ writtenTo n leasts chosen contexts places (now (totals .entry)) rules before (5 * n + rules)) ⌝ }
+{
+    let mut r = 0;
+    while r < rules {
+        table[5 * n + r] = totals[r];
+        r += 1;
     }
 }
 
@@ -83,13 +93,10 @@ pub fn write(
     table: &mut [u16],
 )
     requires { ⌜ (n ≤ 128) × (rules ≤ 256) × (5 * n + rules ≤ length (now table)) ⌝ }
+    requires { ⌜ Room n (now leasts) (now chosen) (now contexts) (now places) ⌝ }
     ensures { λ _. ⌜ now (table .exit) ≡ over (tabulate (tableWord n (now (leasts .entry)) (now (chosen .entry))
         (now (contexts .entry)) (now (places .entry)) (now (totals .entry))) (5 * n + rules)) (now (table .entry)) ⌝ }
 {
-    let words = 5 * n + rules;
-    let mut i = 0;
-    while i < words {
-        table[i] = table_word(i, n, leasts, chosen, contexts, places, totals);
-        i += 1;
-    }
+    write_fives(n, leasts, chosen, contexts, places, table);
+    write_totals(n, rules, totals, table);
 }

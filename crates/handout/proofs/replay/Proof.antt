@@ -1,12 +1,12 @@
 -- `handout::replay` meets its contract: row 4 is the judge's, and the others are those of a grammar. Assumes nothing.
 use borrow.Author.Needs.{needs}
-use Rattle.tables.proofs.Outcomes.{broken-of, read-of}
+use Rattle.grammar.proofs.WordsRead.{broken-of, begun-of}
 use Rattle.handout.specs.Replay.{row-4}
 use Rattle.handout.proofs.replay.Statement.{statement}
 use Rattle.handout.proofs.replay.Tie as tie
 
-judge-requires : tie.Need-judge-requires
-judge-requires c κs = search needs
+read-requires : tie.Need-read-requires
+read-requires c κs = search needs
 
 enum-known-place : tie.Need-enum-known-place
 enum-known-place c = search needs
@@ -16,10 +16,13 @@ enum-known-nonterminals c = search needs
 
 of-grammar-requires : tie.Need-of-grammar-requires
 of-grammar-requires c κs =
-    (_, read-of _ (c .before .before .before .before .judge .ensures) (c .before .before .nonterminals .given .1))
+    let at-read = c .before .before .before .before .before in
+    let read = at-read .read in
+    let begun = begun-of _ _ (read .ensures .0) (read .ensures .1) (c .before .before .before .nonterminals .given .1) in
+    (begun .grammar, begun .view)
 
 returns : tie.Need-returns
-returns c = row-4 (broken-of _ (c .before .before .before .judge .ensures) (c .before .place .given .1))
+returns c = row-4 (broken-of _ (c .before .before .before .read .ensures .0) (c .before .place .given .1))
 
 same-length : tie.Need-same-length
 same-length c = search needs
@@ -31,7 +34,7 @@ pub replay-spec : {M : Type 1} → statement M
 replay-spec =
     tie.close
     (tie.spec
-    judge-requires
+    read-requires
     enum-known-place
     enum-known-nonterminals
     of-grammar-requires

@@ -1,13 +1,13 @@
 -- `tables::tables` meets its contract: row 4 is the judge's, and the others are those of what is worked out.
 -- Assumes nothing.
 use borrow.Author.Needs.{needs}
+use Rattle.grammar.proofs.WordsRead.{broken-of, begun-of}
 use Rattle.tables.specs.Promise.{row-4}
-use Rattle.tables.proofs.Outcomes.{broken-of, read-of}
 use Rattle.tables.proofs.tables.Statement.{statement}
 use Rattle.tables.proofs.tables.Tie as tie
 
-judge-requires : tie.Need-judge-requires
-judge-requires c κs = search needs
+read-requires : tie.Need-read-requires
+read-requires c κs = search needs
 
 enum-known-place : tie.Need-enum-known-place
 enum-known-place c = search needs
@@ -16,10 +16,12 @@ enum-known-nonterminals : tie.Need-enum-known-nonterminals
 enum-known-nonterminals c = search needs
 
 of-grammar-requires : tie.Need-of-grammar-requires
-of-grammar-requires c κs = read-of _ (c .before .before .before .before .judge .ensures) (c .before .before .nonterminals .given .1)
+of-grammar-requires c κs =
+    let read = c .before .before .before .before .before .read in
+    begun-of _ _ (read .ensures .0) (read .ensures .1) (c .before .before .before .nonterminals .given .1)
 
 returns : tie.Need-returns
-returns c = row-4 (broken-of _ (c .before .before .before .judge .ensures) (c .before .place .given .1))
+returns c = row-4 (broken-of _ (c .before .before .before .read .ensures .0) (c .before .place .given .1))
 
 same-length : tie.Need-same-length
 same-length c = search needs
@@ -31,7 +33,7 @@ pub tables-spec : {M : Type 1} → statement M
 tables-spec =
     tie.close
     (tie.spec
-    judge-requires
+    read-requires
     enum-known-place
     enum-known-nonterminals
     of-grammar-requires

@@ -1,5 +1,6 @@
 -- `grammar::layout::judge_head` meets its contract: each test that faults a word is one of the layout's.
 -- Assumes nothing.
+use mathlib.Core.Path.{refl}
 use native.Mathlib.Omega.{arith}
 use Rattle.grammar.proofs.HeadJudged as head
 use borrow.Author.Needs.{needs}
@@ -51,6 +52,7 @@ returns-7 c =
     record {
       nonterminals = omega arith;
       terminals = omega arith;
+      first = refl;
       judged = head.head-fit ws (omega arith) (omega arith) (omega arith) (omega arith) (omega arith);
     }
 

@@ -1,33 +1,57 @@
 -- `grammar::layout::judge_rules` meets its contract. The loop's invariant: the number of all rules is that of those passed, at
--- most 256, and of those to come. The measure is how many may still begin. Assumes nothing.
-use mathlib.Core.Path.{_≡_, _∙_}
-use Prim.Native.Nat.{_-_, _≤_}
+-- most 256, and of those to come; and what starts is to hold in the end is what it holds with those to come noted. The measure is how
+-- many may still begin. Assumes nothing.
+use mathlib.Core.Path.{_≡_, refl, ap, sym, _∙_}
+use Prim.Native.Nat.{ℕ, _+_, _*_, _-_, _≤_}
 use native.Mathlib.Omega.{arith}
 use borrow.Author.Needs.{needs}
-use lib.ListN.{drop}
+use lib.ListN.{length, drop}
+use Rattle.answers.specs.Buffers.{over}
 use Rattle.grammar.specs.Words.{lefts}
-use Rattle.grammar.specs.JudgeParts.{numberOf}
+use Rattle.grammar.specs.Walk.{walkStart}
+use Rattle.grammar.specs.Rules.{startsFrom}
+use Rattle.grammar.specs.JudgeParts.{numberOf, RuleEnds}
+use Rattle.grammar.specs.declared.layout.Part.the-variants.{Fit}
 use Rattle.grammar.proofs.TableJudged.{whole, none-before, table-ends, table-full, rule-faulted, rule-passed}
+use Rattle.grammar.proofs.StartsNoted.{finally, one-noted, all-noted}
 use Rattle.grammar.proofs.layout.judge_rules.Statement.{statement}
 use Rattle.grammar.proofs.layout.judge_rules.Tie as tie
 
 abbrev Inv-loop : tie.InvT-loop
-Inv-loop words N T first at₀ rules₀ at rules =
-    (rules ≤ 256) × (numberOf (lefts (drop first words) first 256 N T) ≡ whole words N T at rules)
+Inv-loop words N T first starts₀ at₀ rules₀ starts at rules =
+    (rules ≤ 256) × (numberOf (lefts (drop first words) first 256 N T) ≡ whole words N T at rules) ×
+    (length starts ≡ length starts₀) × (at ≤ 3 + 34 * rules) ×
+    (over (startsFrom 256 words walkStart) starts₀ ≡ finally words starts at rules)
 
 abbrev μ-loop : tie.MeasureT-loop
-μ-loop words N T first at₀ rules₀ at rules = 256 - rules
+μ-loop words N T first starts₀ at₀ rules₀ starts at rules = 256 - rules
 
 loop-holds : tie.Need-loop-holds Inv-loop μ-loop
 loop-holds c =
-    let a = c .before .args in
-    (search needs, none-before (a .words .now) (a .nonterminals) (a .terminals) (a .first))
+    let start = c .before .before in
+    let a = start .args in
+    let first : 3 ≡ a .first = omega (arith, start .pre .1 .0) in
+    let none = none-before (a .words .now) (a .nonterminals) (a .terminals) (a .first) in
+    (search needs, none, refl, omega arith, ap (λ (at : ℕ). finally (a .words .now) (a .starts .now) at 0) first)
+
+same-length : tie.Need-same-length Inv-loop μ-loop
+same-length c = search needs
 
 returns : tie.Need-returns Inv-loop μ-loop
 returns c =
-    let a = c .before .before .before .before .args in
+    let a = c .before .before .before .before .before .args in
     let l = c .before .before .loop in
-    l .inv .1 ∙ table-full (a .words .now) (a .nonterminals) (a .terminals) (l .at) (l .rules) (omega arith) (omega arith)
+    let full = table-full (a .words .now) (a .nonterminals) (a .terminals) (l .at) (l .rules) (omega arith) (omega arith) in
+    (l .inv .1 ∙ full, tt)
+
+cast-starts : tie.Need-cast-starts Inv-loop μ-loop
+cast-starts c = omega arith
+
+mul-starts : tie.Need-mul-starts Inv-loop μ-loop
+mul-starts c = search needs
+
+slice-write-starts : tie.Need-slice-write-starts Inv-loop μ-loop
+slice-write-starts c = omega arith
 
 judge-rule-requires : tie.Need-judge-rule-requires Inv-loop μ-loop
 judge-rule-requires c κs = search needs
@@ -35,14 +59,17 @@ judge-rule-requires c κs = search needs
 enum-known-place : tie.Need-enum-known-place Inv-loop μ-loop
 enum-known-place c = search needs
 
+same-length-2 : tie.Need-same-length-2 Inv-loop μ-loop
+same-length-2 c = search needs
+
 returns-2 : tie.Need-returns-2 Inv-loop μ-loop
 returns-2 c =
-    let a = c .before .before .before .before .before .before .before .before .args in
+    let a = c .before .before .before .before .before .before .before .before .before .args in
     let l = c .before .before .before .before .before .before .loop in
     let j = c .before .before .before .judge-rule in
     let e = c .before .place .given .1 in
     let faulted = rule-faulted (a .words .now) (a .nonterminals) (a .terminals) (l .at) (l .rules) in
-    l .inv .1 ∙ faulted _ (j .result) (omega arith) (j .ensures) e
+    (l .inv .1 ∙ faulted _ (j .result) (omega arith) (j .ensures .0) e, tt)
 
 enum-known-next : tie.Need-enum-known-next Inv-loop μ-loop
 enum-known-next c = search needs
@@ -55,18 +82,30 @@ loop-less c = search needs
 
 loop-again : tie.Need-loop-again Inv-loop μ-loop
 loop-again c =
-    let a = c .before .before .before .before .before .before .before .before .args in
+    let a = c .before .before .before .before .before .before .before .before .before .args in
     let l = c .before .before .before .before .before .before .loop in
     let j = c .before .before .before .judge-rule in
     let e = c .before .next .given .1 in
+    let q = c .before .next .given .0 .0 in
     let passed = rule-passed (a .words .now) (a .nonterminals) (a .terminals) (l .at) (l .rules) in
-    (search needs, l .inv .1 ∙ passed _ (j .result) (omega arith) (j .ensures) e)
+    let ends : RuleEnds (a .words .now) (l .at) (Fit q) = rw e at (j .ensures .1) in
+    let noted = one-noted (a .words .now) (l .starts) (l .at) (l .rules) q (j .result) (omega arith) (omega arith) (j .ensures .1) e in (
+      search needs,
+      l .inv .1 ∙ passed _ (j .result) (omega arith) (j .ensures .0) e,
+      search needs,
+      omega (arith, ends .2),
+      l .inv .4 ∙ noted,
+    )
+
+same-length-3 : tie.Need-same-length-3 Inv-loop μ-loop
+same-length-3 c = search needs
 
 returns-3 : tie.Need-returns-3 Inv-loop μ-loop
 returns-3 c =
-    let a = c .before .before .before .args in
+    let a = c .before .before .before .before .args in
     let l = c .before .loop in
-    l .inv .1 ∙ table-ends (a .words .now) (a .nonterminals) (a .terminals) (l .at) (l .rules) (omega arith)
+    let ends = table-ends (a .words .now) (a .nonterminals) (a .terminals) (l .at) (l .rules) (omega arith) in
+    (l .inv .1 ∙ ends, sym (l .inv .4 ∙ all-noted (a .words .now) (l .starts) (l .at) (l .rules) (omega arith)))
 
 pub judge-rules-spec : {M : Type 1} → statement M
 judge-rules-spec =
@@ -75,12 +114,18 @@ judge-rules-spec =
     Inv-loop
     μ-loop
     loop-holds
+    same-length
     returns
+    cast-starts
+    mul-starts
+    slice-write-starts
     judge-rule-requires
     enum-known-place
+    same-length-2
     returns-2
     enum-known-next
     add-rules
     loop-less
     loop-again
+    same-length-3
     returns-3)

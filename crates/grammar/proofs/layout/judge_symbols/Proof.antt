@@ -1,5 +1,6 @@
 -- `grammar::layout::judge_symbols` meets its contract: the layout faults the symbols at the first unfit index, and at the end of
 -- words that end in them. Assumes nothing.
+use mathlib.Core.Path.{refl}
 use native.Mathlib.Omega.{arith}
 use Rattle.grammar.proofs.RuleJudged.{symbols-unfit, symbols-fit}
 use borrow.Author.Needs.{needs}
@@ -19,8 +20,8 @@ returns : tie.Need-returns
 returns c =
     let a = c .before .before .before .args in
     let u = c .first-unfit .ensures in
-    symbols-unfit (a .words .now) (a .nonterminals) (a .terminals) (a .first) (a .count) (c .first-unfit .result)
-    (omega arith) (omega arith) (omega arith) (u .fit) (λ h. u .unfit (omega arith))
+    let unfit = symbols-unfit (a .words .now) (a .nonterminals) (a .terminals) (a .first) (a .count) (c .first-unfit .result) in
+    (unfit (omega arith) (omega arith) (omega arith) (u .fit) (λ h. u .unfit (omega arith)), tt)
 
 add-end : tie.Need-add-end
 add-end c = search needs
@@ -32,15 +33,15 @@ returns-2 : tie.Need-returns-2
 returns-2 c =
     let a = c .before .before .before .before .args in
     let u = c .before .first-unfit2 .ensures in
-    symbols-unfit (a .words .now) (a .nonterminals) (a .terminals) (a .first) (a .count) (c .before .first-unfit2 .result)
-    (omega arith) (omega arith) (omega arith) (u .fit) (λ h. u .unfit (omega arith))
+    let unfit = symbols-unfit (a .words .now) (a .nonterminals) (a .terminals) (a .first) (a .count) (c .before .first-unfit2 .result) in
+    (unfit (omega arith) (omega arith) (omega arith) (u .fit) (λ h. u .unfit (omega arith)), tt)
 
 returns-3 : tie.Need-returns-3
 returns-3 c =
     let a = c .before .before .before .before .args in
     let u = c .before .first-unfit2 .ensures in
-    symbols-fit (a .words .now) (a .nonterminals) (a .terminals) (a .first) (a .count)
-    (omega arith) (λ j h l. u .fit j h (omega arith))
+    let fit = symbols-fit (a .words .now) (a .nonterminals) (a .terminals) (a .first) (a .count) in
+    (fit (omega arith) (λ j h l. u .fit j h (omega arith)), (refl, omega arith))
 
 pub judge-symbols-spec : {M : Type 1} → statement M
 judge-symbols-spec =

@@ -1,7 +1,6 @@
 -- `handout::answered::of_grammar` meets its contract: row 12, or what the list comes to. Assumes nothing.
 use borrow.Author.Needs.{needs}
 use native.Mathlib.Omega.{arith}
-use Rattle.tables.proofs.Outcomes.{viewed}
 use Rattle.handout.specs.Replay.{row-12}
 use Rattle.handout.proofs.answered.of_grammar.Statement.{statement}
 use Rattle.handout.proofs.answered.of_grammar.Tie as tie
@@ -9,14 +8,8 @@ use Rattle.handout.proofs.answered.of_grammar.Tie as tie
 returns : tie.Need-returns
 returns c = row-12 (c .before .before .before .before .pre .1 .is) (omega arith)
 
-find-requires : tie.Need-find-requires
-find-requires c κs = search needs
-
 of-few-requires : tie.Need-of-few-requires
-of-few-requires c κs =
-    let find = c .before .before .before in
-    let p = find .before .before .before .before .before .before .pre .1 in
-    ((p .grammar, viewed p _ (find .find .ensures)), omega (arith, c .before .before .if2 .taken))
+of-few-requires c κs = (c .before .before .before .before .before .before .pre, omega (arith, c .before .if2 .taken))
 
 same-length : tie.Need-same-length
 same-length c = search needs
@@ -26,9 +19,8 @@ returns-2 c = search needs
 
 of-some-requires : tie.Need-of-some-requires
 of-some-requires c κs =
-    let find = c .before .before .before .before in
-    let p = find .before .before .before .before .before .before .pre .1 in
-    ((p .grammar, viewed p _ (find .find .ensures)), omega (arith, c .before .before .if3 .taken))
+    let start = c .before .before .before .before .before .before .before in
+    (start .pre, omega (arith, c .before .if3 .taken))
 
 same-length-2 : tie.Need-same-length-2
 same-length-2 c = search needs
@@ -38,9 +30,8 @@ returns-3 c = search needs
 
 of-many-requires : tie.Need-of-many-requires
 of-many-requires c κs =
-    let find = c .before .before .before .before in
-    let p = find .before .before .before .before .before .before .pre .1 in
-    ((p .grammar, viewed p _ (find .find .ensures)), omega (arith, find .before .before .if1 .left))
+    let some = c .before .before .before in
+    (some .before .before .before .before .pre, omega (arith, some .if1 .left))
 
 same-length-3 : tie.Need-same-length-3
 same-length-3 c = search needs
@@ -53,7 +44,6 @@ of-grammar-spec =
     tie.close
     (tie.spec
     returns
-    find-requires
     of-few-requires
     same-length
     returns-2

@@ -1,7 +1,8 @@
--- `handout::handed::hand_out` meets its contract: there is room by the total, or the tree is counted first. Assumes nothing.
+-- `handout::handed::hand_out` meets its contract: the total is the target's, and how much room is cleared goes by it. Assumes
+-- nothing.
 use borrow.Author.Needs.{needs}
 use native.Mathlib.Omega.{arith}
-use Rattle.handout.proofs.NextOutcomes.{total-index, prepared, fits-total}
+use Rattle.handout.proofs.NextOutcomes.{total-index, prepared, total-within}
 use Rattle.handout.proofs.handed.hand_out.Statement.{statement}
 use Rattle.handout.proofs.handed.hand_out.Tie as tie
 
@@ -11,24 +12,26 @@ word-requires c κs = search needs
 word-requires-2 : tie.Need-word-requires-2
 word-requires-2 c κs = search needs
 
-find-requires : tie.Need-find-requires
-find-requires c κs = search needs
-
 mul-word : tie.Need-mul-word
-mul-word c = let word = c .before .before .before in omega (arith, total-index (word .before .before .before .before .before .before .pre) (word .word .ensures))
+mul-word c =
+    let word = c .before in
+    omega (arith, total-index (word .before .before .before .before .before .before .pre) (word .word .ensures))
 
 add-word : tie.Need-add-word
-add-word c = let word = c .before .before .before in omega (arith, total-index (word .before .before .before .before .before .before .pre) (word .word .ensures))
+add-word c =
+    let word = c .before in
+    omega (arith, total-index (word .before .before .before .before .before .before .pre) (word .word .ensures))
 
 word-requires-3 : tie.Need-word-requires-3
 word-requires-3 c κs = search needs
 
-count-first-requires : tie.Need-count-first-requires
-count-first-requires c κs =
-    let find = c .before .before .before .before .before .before in
-    let word = find .before .before .before in
-    let known = prepared _ (word .before .before .before .before .before .before .pre) (word .word .ensures) (find .before .before .word2 .ensures) (find .find .ensures) in
-    known
+in-few-requires : tie.Need-in-few-requires
+in-few-requires c κs =
+    let total = c .before .before .before .before in
+    let word = total .before .before in
+    let asked = word .before .before .before .before .before .before .pre in
+    let p = prepared asked (word .word .ensures) (total .before .word2 .ensures) in
+    (record { prepared = p; is = total .word3 .ensures }, omega (arith, c .before .before .before .if1 .taken))
 
 same-length : tie.Need-same-length
 same-length c = search needs
@@ -42,12 +45,13 @@ same-length-3 c = search needs
 returns : tie.Need-returns
 returns c = search needs
 
-count-first-requires-2 : tie.Need-count-first-requires-2
-count-first-requires-2 c κs =
-    let find = c .before .before .before .before .before .before .before in
-    let word = find .before .before .before in
-    let known = prepared _ (word .before .before .before .before .before .before .pre) (word .word .ensures) (find .before .before .word2 .ensures) (find .find .ensures) in
-    known
+in-some-requires : tie.Need-in-some-requires
+in-some-requires c κs =
+    let total = c .before .before .before .before .before in
+    let word = total .before .before in
+    let asked = word .before .before .before .before .before .before .pre in
+    let p = prepared asked (word .word .ensures) (total .before .word2 .ensures) in
+    (record { prepared = p; is = total .word3 .ensures }, omega (arith, c .before .before .before .if2 .taken))
 
 same-length-4 : tie.Need-same-length-4
 same-length-4 c = search needs
@@ -61,17 +65,13 @@ same-length-6 c = search needs
 returns-2 : tie.Need-returns-2
 returns-2 c = search needs
 
-write-out-requires : tie.Need-write-out-requires
-write-out-requires c κs =
-    let enough = c .before .before .before .before in
-    let total = enough .before .before in
-    let find = total .before in
-    let word = find .before .before .before in
-    let known = prepared _ (word .before .before .before .before .before .before .pre) (word .word .ensures) (find .before .before .word2 .ensures) (find .find .ensures) in
-    let tokens-fit = enough .before .if1 .left in
-    let rules-fit = enough .if2 .left in
-    let a = word .before .before .before .before .before .before .args in
-    (known, fits-total (a .sentence .now) (a .derivation .now) (total .word3 .ensures) (omega (arith, tokens-fit)) (omega (arith, rules-fit)))
+in-many-requires : tie.Need-in-many-requires
+in-many-requires c κs =
+    let total = c .before .before .before .before .before in
+    let word = total .before .before in
+    let asked = word .before .before .before .before .before .before .pre in
+    let p = prepared asked (word .word .ensures) (total .before .word2 .ensures) in
+    (record { prepared = p; is = total .word3 .ensures }, total-within p (total .word3 .ensures))
 
 same-length-7 : tie.Need-same-length-7
 same-length-7 c = search needs
@@ -91,21 +91,20 @@ hand-out-spec =
     (tie.spec
     word-requires
     word-requires-2
-    find-requires
     mul-word
     add-word
     word-requires-3
-    count-first-requires
+    in-few-requires
     same-length
     same-length-2
     same-length-3
     returns
-    count-first-requires-2
+    in-some-requires
     same-length-4
     same-length-5
     same-length-6
     returns-2
-    write-out-requires
+    in-many-requires
     same-length-7
     same-length-8
     same-length-9

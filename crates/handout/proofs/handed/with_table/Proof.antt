@@ -5,13 +5,8 @@ use Rattle.handout.proofs.NextOutcomes.{refuses-9, finishes, asks}
 use Rattle.handout.proofs.handed.with_table.Statement.{statement}
 use Rattle.handout.proofs.handed.with_table.Tie as tie
 
-count-rules-requires : tie.Need-count-rules-requires
-count-rules-requires c κs = search needs
-
 returns : tie.Need-returns
-returns c =
-    let counted = c .before in
-    refuses-9 (counted .count-rules .ensures .1) _ (counted .before .before .before .before .before .before .pre) (omega arith)
+returns c = refuses-9 (c .before .before .before .before .before .before .pre) _ (omega arith)
 
 first-unused-requires : tie.Need-first-unused-requires
 first-unused-requires c κs = search needs
@@ -25,10 +20,8 @@ enum-known-target c = search needs
 hand-out-requires : tie.Need-hand-out-requires
 hand-out-requires c κs =
     let found = c .before .before .before .before .before .before in
-    let counted = found .before .before .before in
-    asks (counted .count-rules .ensures .1) (counted .before .before .before .before .before .before .pre)
-    (found .first-unused .ensures)
-    (c .before .before .before .before .target .given .1) (omega arith)
+    let tabled = found .before .before .before .before .before .before .before .before .pre in
+    asks tabled (found .first-unused .ensures) (c .before .before .before .before .target .given .1) (omega arith)
 
 same-length : tie.Need-same-length
 same-length c = search needs
@@ -36,9 +29,8 @@ same-length c = search needs
 returns-2 : tie.Need-returns-2
 returns-2 c =
     let found = c .before .before in
-    let counted = found .before .before .before in
-    finishes (counted .count-rules .ensures .1) _ (counted .before .before .before .before .before .before .pre)
-    (found .first-unused .ensures) (c .enum-told .given .1) (omega arith)
+    let tabled = found .before .before .before .before .before .before .before .before .pre in
+    finishes tabled _ (found .first-unused .ensures) (c .enum-told .given .1) (omega arith)
 
 same-length-2 : tie.Need-same-length-2
 same-length-2 c = search needs
@@ -56,7 +48,6 @@ pub with-table-spec : {M : Type 1} → statement M
 with-table-spec =
     tie.close
     (tie.spec
-    count-rules-requires
     returns
     first-unused-requires
     enum-told

@@ -1,18 +1,25 @@
 -- `handout::handed::write_out` meets its contract: what was listed is the sentence, and its rules are marked. Assumes nothing.
 use borrow.Author.Needs.{needs}
-use native.Mathlib.Omega.{arith}
-use Rattle.handout.proofs.NextOutcomes.{numbers-within, hands-out}
+use Rattle.handout.proofs.TreeWrites.{counted}
+use Rattle.handout.proofs.NextOutcomes.{ready, numbers-within, hands-out}
 use Rattle.handout.proofs.handed.write_out.Statement.{statement}
 use Rattle.handout.proofs.handed.write_out.Tie as tie
 
 list-tree-requires : tie.Need-list-tree-requires
-list-tree-requires c κs = search needs
+list-tree-requires c κs =
+    let lent = c .before .before .before .before .before in
+    let (p, (room, fits)) = lent .before .before .before .before .before .before .before .before .pre in
+    (ready (p .prepared), (room, p .is))
 
 mark-rules-requires : tie.Need-mark-rules-requires
 mark-rules-requires c κs =
-    let listed = c .before .before .before .before .before .before in
-    let p = listed .before .before .before .before .before .before .before .before .pre in
-    let within = numbers-within _ (p .0) (p .1) (listed .list-tree .ensures) in
+    let listed = c .before .before .before .before .before .before .before .before .before .before .before .before in
+    let lent = listed .before .before .before .before .before .before in
+    let start = lent .before .before .before .before .before .before .before .before in
+    let a = start .args in
+    let (p, (room, fits)) = start .pre in
+    let counts = counted (listed .list-tree .ensures) in
+    let within = numbers-within (p .prepared) counts (a .sentence .now) (a .derivation .now) fits in
     search needs
 
 same-length : tie.Need-same-length
@@ -24,12 +31,22 @@ same-length-2 c = search needs
 same-length-3 : tie.Need-same-length-3
 same-length-3 c = search needs
 
+same-length-4 : tie.Need-same-length-4
+same-length-4 c = search needs
+
+same-length-5 : tie.Need-same-length-5
+same-length-5 c = search needs
+
+same-length-6 : tie.Need-same-length-6
+same-length-6 c = search needs
+
 returns : tie.Need-returns
 returns c =
     let marked = c .before .before in
-    let listed = marked .before .before .before .before .before .before .before in
-    let start = listed .before .before .before .before .before .before .before .before in
-    hands-out _ (start .pre .0) (start .pre .1) (listed .list-tree .ensures) (marked .mark-rules .ensures)
+    let listed = marked .before .before .before .before .before .before .before .before .before .before .before .before .before in
+    let known = listed .before .before .before .before .before .before in
+    let (p, (room, fits)) = known .before .before .before .before .before .before .before .before .pre in
+    hands-out _ (p .prepared) fits (listed .list-tree .ensures) (marked .mark-rules .ensures)
 
 pub write-out-spec : {M : Type 1} → statement M
 write-out-spec =
@@ -40,4 +57,7 @@ write-out-spec =
     same-length
     same-length-2
     same-length-3
+    same-length-4
+    same-length-5
+    same-length-6
     returns)

@@ -1,105 +1,89 @@
 -- `handout::replayed::expand` meets its contract: each `return` is one of the ways in which the next number does not apply, and
 -- at the end its rule is opened. Assumes nothing.
-use borrow.Author.Needs.{needs}
 use native.Mathlib.Omega.{arith}
-use mathlib.Core.Path.{_≡_}
-use Prim.Native.Nat.{_+_, _<_}
-use lib.ListN.{length, getD}
-use Rattle.handout.specs.ReplaySteps.{opening}
-use Rattle.handout.proofs.ReplayStepped.{none-left, no-rule, other-rule, opens, opens-bounded, expanded, expands}
+use Prim.Native.Nat.{_<_}
+use lib.ListN.{length}
+use Rattle.handout.proofs.ReplayStepped.{none-left, no-rule, other-rule, openable, opens, opens-bounded}
+use borrow.Author.Needs.{needs}
 use Rattle.handout.proofs.replayed.expand.Statement.{statement}
 use Rattle.handout.proofs.replayed.expand.Tie as tie
 
 returns : tie.Need-returns
 returns c =
     let p = c .before .before .before .before .before .pre in
-    let kept = p .1 .1 in
-    (tt, λ g n view below. none-left kept (p .0) view below (omega arith))
+    (tt, λ g n view below. none-left (p .1 .1) (p .0) view below (omega arith))
 
-word-requires : tie.Need-word-requires
-word-requires c κs = search needs
+mul-wide : tie.Need-mul-wide
+mul-wide c = search needs
+
+shared-slice-read-wide : tie.Need-shared-slice-read-wide
+shared-slice-read-wide c = search needs
+
+wide-requires : tie.Need-wide-requires
+wide-requires c κs = search needs
 
 returns-2 : tie.Need-returns-2
 returns-2 c =
-    let p = c .before .before .before .before .before .before .before .pre in
-    let kept = p .1 .1 in
-    (tt, λ g n view below. no-rule kept (p .0) view below (c .before .word .ensures) (omega arith) (omega arith))
+    let start = c .before .before .before .before .before .before .before .before in
+    let p = start .pre in
+    let more : start .args .form .next < length (start .args .list .now) = omega (arith, c .before .before .before .if1 .left) in
+    (tt, λ g n view below. no-rule (p .1 .1) (p .0) view below (c .before .wide .ensures) more (omega arith))
 
-mul-at : tie.Need-mul-at
-mul-at c = search needs
+index-requires : tie.Need-index-requires
+index-requires c κs = search needs
 
-element-copy-out-at : tie.Need-element-copy-out-at
-element-copy-out-at c = search needs
+mul-if3 : tie.Need-mul-if3
+mul-if3 c =
+    let found = c in
+    let read = found .before .before in
+    let start = read .before .before .before .before .before .before .before in
+    let ground = start .pre .1 .0 in
+    let k = read .wide .result in
+    let l : k < start .args .rules = omega (arith, found .before .if2 .left) in
+    let at = found .index .ensures .0 (omega (arith, ground .few-rules)) in
+    omega (arith, at, ground .whole k l, ground .few-words)
 
-word-requires-2 : tie.Need-word-requires-2
-word-requires-2 c κs = search needs
+shared-slice-read-if3 : tie.Need-shared-slice-read-if3
+shared-slice-read-if3 c =
+    let found = c .before in
+    let read = found .before .before in
+    let start = read .before .before .before .before .before .before .before in
+    let ground = start .pre .1 .0 in
+    let k = read .wide .result in
+    let l : k < start .args .rules = omega (arith, found .before .if2 .left) in
+    let at = found .index .ensures .0 (omega (arith, ground .few-rules)) in
+    omega (arith, at, ground .whole k l)
 
-word-requires-3 : tie.Need-word-requires-3
-word-requires-3 c κs = search needs
+mul-if3-2 : tie.Need-mul-if3-2
+mul-if3-2 c = search needs
+
+shared-slice-read-if3-2 : tie.Need-shared-slice-read-if3-2
+shared-slice-read-if3-2 c = search needs
 
 returns-3 : tie.Need-returns-3
 returns-3 c =
-    let right = c .before .before .before .before in
-    let read = right .before in
-    let more = read .before in
-    let start = more .before .before .before .before .before in
+    let found = c .before .before .before in
+    let read = found .before .before in
+    let start = read .before .before .before .before .before .before .before in
     let p = start .pre in
-    let l : read .word .result < start .args .rules = omega (arith, right .if2 .left) in
-    let h : start .args .form .next < length (start .args .list .now) = omega (arith, more .if1 .left) in
-    (tt, λ g n view below. other-rule (p .1 .1) (p .0) view below (read .word .ensures) h l (λ e. omega arith))
+    let k = read .wide .result in
+    let l : k < start .args .rules = omega (arith, found .before .if2 .left) in
+    let more : start .args .form .next < length (start .args .list .now) = omega (arith, read .before .before .if1 .left) in
+    let at = found .index .ensures .0 (omega (arith, p .1 .0 .few-rules)) in
+    let other = rw at at (c .if3 .taken) in
+    (tt, λ g n view below. other-rule (p .1 .1) (p .0) view below (read .wide .ensures) more l (λ e. other e))
 
-add-narrow : tie.Need-add-narrow
-add-narrow c = search needs
-
-narrow-requires : tie.Need-narrow-requires
-narrow-requires c κs = search needs
-
-put-requires : tie.Need-put-requires
-put-requires c κs = search needs
-
-sub-narrow : tie.Need-sub-narrow
-sub-narrow c = search needs
-
-narrow-requires-2 : tie.Need-narrow-requires-2
-narrow-requires-2 c κs = search needs
-
-put-requires-2 : tie.Need-put-requires-2
-put-requires-2 c κs = search needs
-
-add-count-at : tie.Need-add-count-at
-add-count-at c =
-    let same-left = c .before .before .before .before .before .before .before .before .before .before .before .before in
-    let right = same-left .before .before .before .before in
-    let read = right .before in
-    let start = read .before .before .before .before .before .before in
-    let ground = start .pre .1 .0 in
-    let l : read .word .result < start .args .rules = omega (arith, right .if2 .left) in
-    omega (arith, ground .few-words, ground .whole (read .word .result) l)
-
-word-requires-4 : tie.Need-word-requires-4
-word-requires-4 c κs = search needs
-
-add-t13 : tie.Need-add-t13
-add-t13 c =
-    let same-left = c .before .before .before .before .before .before .before .before .before .before .before .before .before in
-    let right = same-left .before .before .before .before in
-    let read = right .before in
-    let start = read .before .before .before .before .before .before in
-    let ground = start .pre .1 .0 in
-    let l : read .word .result < start .args .rules = omega (arith, right .if2 .left) in
-    omega (arith, ground .few-words, ground .whole (read .word .result) l)
-
-add-t17 : tie.Need-add-t17
-add-t17 c =
-    let start = c .before .before .before .before .before .before .before .before .before .before .before .before .before .before .before .before .before .before .before .before .before .before .before .before .before in
+open-rule-requires : tie.Need-open-rule-requires
+open-rule-requires c κs =
+    let found = c .before .before .before .before .before in
+    let read = found .before .before in
+    let start = read .before .before .before .before .before .before .before in
     let p = start .pre in
-    omega (arith, p .1 .1 .waits, p .1 .1 .used, p .1 .0 .few-numbers)
-
-add-t24 : tie.Need-add-t24
-add-t24 c =
-    let start = c .before .before .before .before .before .before .before .before .before .before .before .before .before .before .before .before .before .before .before .before .before .before .before .before .before in
-    let p = start .pre in
-    omega (arith, p .1 .1 .used, p .1 .0 .few-numbers)
+    let k = read .wide .result in
+    let l : k < start .args .rules = omega (arith, found .before .if2 .left) in
+    let more : start .args .form .next < length (start .args .list .now) = omega (arith, read .before .before .if1 .left) in
+    let at = found .index .ensures .0 (omega (arith, p .1 .0 .few-rules)) in
+    rw at (openable (p .1 .1) (p .0) (p .1 .0) k l more)
 
 same-length : tie.Need-same-length
 same-length c = search needs
@@ -109,37 +93,22 @@ same-length-2 c = search needs
 
 returns-4 : tie.Need-returns-4
 returns-4 c =
-    let put-left = c .before .before .before .before in
-    let put-at = put-left .before .before .before .before .before .before in
-    let same-left = put-at .before .before .before .before in
-    let right = same-left .before .before .before .before in
-    let read = right .before in
-    let start = read .before .before .before .before .before .before in
-    let a = start .args in
+    let at-open-rule = c .before .before .before .before in
+    let same-left = at-open-rule .before .before .before in
+    let found = same-left .before .before .before in
+    let read = found .before .before in
+    let start = read .before .before .before .before .before .before .before in
     let p = start .pre in
     let ground = p .1 .0 in
     let kept = p .1 .1 in
-    let k = read .word .result in
-    let at = getD (a .starts .now) k 0 in
-    let ws = a .words .now in
-    let more : a .form .next < length (a .list .now) = omega (arith, read .before .if1 .left) in
-    let l : k < a .rules = omega (arith, right .if2 .left) in
-    let same : getD ws at 0 ≡ getD ws (a .form .at) 0 =
-    omega (arith, same-left .if3 .left, same-left .before .word3 .ensures, same-left .before .before .word2 .ensures) in
-    let ats = rw (put-at .before .narrow .ensures) at (put-at .put .ensures) in
-    let lefts = rw (put-left .before .narrow2 .ensures) at (put-left .put2 .ensures) in
-    let symbols : at + 1 + 1 ≡ at + 2 = omega arith in
-    let opened : record {
-      at = at + 1 + 1;
-      left = c .before .word4 .result;
-      depth = a .form .depth + 1;
-      next = a .form .next + 1;
-      tokens = a .form .tokens;
-    } ≡ opening ws at (a .form) = simp (symbols, c .before .word4 .ensures) in (
-      expanded ws (a .list .now) _ _ (a .form) at ats lefts opened (opens-bounded kept (p .0) ground k l more),
-      λ g n view below.
-          let opens-it = opens kept (p .0) view below (read .word .ensures) more (ground .few-numbers) l same in
-          expands g ws (a .list .now) _ _ (a .form) at ats lefts opened opens-it,
+    let k = read .wide .result in
+    let l : k < start .args .rules = omega (arith, found .before .if2 .left) in
+    let more : start .args .form .next < length (start .args .list .now) = omega (arith, read .before .before .if1 .left) in
+    let at = found .index .ensures .0 (omega (arith, ground .few-rules)) in
+    let same = rw at at (same-left .if3 .left) in
+    let opened = rw at at (at-open-rule .open-rule .ensures) in (
+      opens-bounded kept (p .0) ground k l more opened (search needs) (search needs),
+      λ g n view below. opens kept (p .0) view below (read .wide .ensures) more l same opened,
     )
 
 pub expand-spec : {M : Type 1} → statement M
@@ -147,24 +116,17 @@ expand-spec =
     tie.close
     (tie.spec
     returns
-    word-requires
+    mul-wide
+    shared-slice-read-wide
+    wide-requires
     returns-2
-    mul-at
-    element-copy-out-at
-    word-requires-2
-    word-requires-3
+    index-requires
+    mul-if3
+    shared-slice-read-if3
+    mul-if3-2
+    shared-slice-read-if3-2
     returns-3
-    add-narrow
-    narrow-requires
-    put-requires
-    sub-narrow
-    narrow-requires-2
-    put-requires-2
-    add-count-at
-    word-requires-4
-    add-t13
-    add-t17
-    add-t24
+    open-rule-requires
     same-length
     same-length-2
     returns-4)

@@ -1,12 +1,14 @@
 -- `handout::replayed::run` meets its contract: the loop's invariant is `Held`, with the bounds and the lengths of what is lent.
--- The measure is what is to be done at most. Assumes nothing.
-use borrow.Author.Needs.{needs}
+-- The measure is what is to be done at most: tokens passed make it no more, and a step makes it less. Assumes nothing.
 use mathlib.Core.Path.{_≡_, refl}
+use native.Mathlib.Omega.{arith}
 use lib.ListN.{length}
 use Rattle.grammar.specs.Words.{Grammar}
 use Rattle.grammar.proofs.RulesInView.{View}
 use Rattle.handout.specs.ReplaySteps.{Kept, toDo}
-use Rattle.handout.proofs.ReplayRun.{Held, held-start, kept-start, onward, held-on, held-end, held-stop}
+use Rattle.handout.proofs.ReplayStepped.{passes-kept, passes-no-more}
+use Rattle.handout.proofs.ReplayRun.{Held, held-start, kept-start, onward, held-passed, held-on, held-end, held-stop}
+use borrow.Author.Needs.{needs}
 use Rattle.handout.proofs.replayed.run.Statement.{statement}
 use Rattle.handout.proofs.replayed.run.Tie as tie
 
@@ -21,34 +23,42 @@ abbrev μ-loop : tie.MeasureT-loop
 
 loop-holds : tie.Need-loop-holds Inv-loop μ-loop
 loop-holds c =
-    let a = c .before .before .before .before .before .args in
     let p = c .before .before .before .before .before .pre in
     (kept-start (p .1 .0) (p .1 .1 .0) (p .1 .1 .1), refl, refl, refl, λ g view. held-start g view _ _ _ _)
 
+pass-tokens-requires : tie.Need-pass-tokens-requires Inv-loop μ-loop
+pass-tokens-requires c κs = search needs
+
 step-requires : tie.Need-step-requires Inv-loop μ-loop
 step-requires c κs =
-    let at-loop = c .before .before .before in
-    (at-loop .before .before .before .before .before .before .pre .0, at-loop .loop .inv .0)
+    let past = c .before .before .before .before in
+    let at-loop = past .before .before in
+    let start = at-loop .before .before .before .before .before .before in
+    (start .pre .0, passes-kept (at-loop .loop .inv .0) (past .pass-tokens .ensures))
 
 enum-known-more : tie.Need-enum-known-more Inv-loop μ-loop
 enum-known-more c = search needs
 
 loop-less : tie.Need-loop-less Inv-loop μ-loop
 loop-less c =
-    let stepped = c .before .before .before .before .before .before .before .before .before in
-    onward _ (c .before .more .given .1) (stepped .step .ensures .0) .less
+    let stepped = c .before .before .before .before .before .before .before in
+    let past = stepped .before .before .before .before .before in
+    let less = onward _ (c .before .more .given .1) (stepped .step .ensures .0) .less in
+    omega (arith, less, passes-no-more (past .before .before .loop .inv .0) (past .pass-tokens .ensures))
 
 loop-again : tie.Need-loop-again Inv-loop μ-loop
 loop-again c =
-    let stepped = c .before .before .before .before .before .before .before .before .before in
-    let inv = stepped .before .before .before .before .loop .inv in
-    let z = stepped .step in
+    let stepped = c .before .before .before .before .before .before .before in
+    let past = stepped .before .before .before .before .before in
+    let inv = past .before .before .loop .inv in
+    let p = past .pass-tokens .ensures in
+    let z = stepped .step .ensures in
     let e = c .before .more .given .1 in (
-      onward _ e (z .ensures .0) .kept,
+      onward _ e (z .0) .kept,
       search needs,
       search needs,
       search needs,
-      λ g view. held-on (inv .4 g view) _ (z .ensures .1 g view) e,
+      λ g view. held-on (held-passed (inv .4 g view) (inv .0) view p) _ _ _ (z .1 g _ view (p .stops)) e,
     )
 
 enum-known-tokens : tie.Need-enum-known-tokens Inv-loop μ-loop
@@ -65,9 +75,13 @@ same-length-3 c = search needs
 
 returns : tie.Need-returns Inv-loop μ-loop
 returns c =
-    let stepped = c .before .before .before .before .before .before .before .before .before in
-    let held = stepped .before .before .before .before .loop .inv .4 in
-    λ g view. record { ended = held-end (held g view) _ (stepped .step .ensures .1 g view) (c .before .tokens .given .1) }
+    let stepped = c .before .before .before .before .before .before .before in
+    let past = stepped .before .before .before .before .before in
+    let inv = past .before .before .loop .inv in
+    let p = past .pass-tokens .ensures in
+    let turned = stepped .step .ensures .1 in
+    let e = c .before .tokens .given .1 in
+    λ g view. record { ended = held-end (held-passed (inv .4 g view) (inv .0) view p) _ _ _ (turned g _ view (p .stops)) e }
 
 enum-known-place : tie.Need-enum-known-place Inv-loop μ-loop
 enum-known-place c = search needs
@@ -83,9 +97,13 @@ same-length-6 c = search needs
 
 returns-2 : tie.Need-returns-2 Inv-loop μ-loop
 returns-2 c =
-    let stepped = c .before .before .before .before .before .before .before .before .before in
-    let held = stepped .before .before .before .before .loop .inv .4 in
-    λ g view. record { ended = held-stop (held g view) _ (stepped .step .ensures .1 g view) (c .before .place .given .1) }
+    let stepped = c .before .before .before .before .before .before .before in
+    let past = stepped .before .before .before .before .before in
+    let inv = past .before .before .loop .inv in
+    let p = past .pass-tokens .ensures in
+    let turned = stepped .step .ensures .1 in
+    let e = c .before .place .given .1 in
+    λ g view. record { ended = held-stop (held-passed (inv .4 g view) (inv .0) view p) _ _ _ (turned g _ view (p .stops)) e }
 
 pub run-spec : {M : Type 1} → statement M
 run-spec =
@@ -94,6 +112,7 @@ run-spec =
     Inv-loop
     μ-loop
     loop-holds
+    pass-tokens-requires
     step-requires
     enum-known-more
     loop-less

@@ -1,35 +1,31 @@
--- `tables::chains::follow_context` meets its contract: whichever rule is tried, the contexts stay sound. The measure
+-- `tables::chains::follow_context` meets its contract: whichever rule is tried, what is known of the contexts stands. The measure
 -- is the sum of the figures, which falls with each rule but the last. Assumes nothing.
-use Prim.Native.Nat.{_≤_}
-use mathlib.Core.Path.{_≡_, refl}
+use Prim.Native.Nat.{_≤_, _<_}
+use mathlib.Core.Path.{_≡_, refl, _∙_}
 use native.Mathlib.Omega.{arith}
 use lib.ListN.{length}
 use Rattle.grammar.specs.Words.{Grammar}
-use Rattle.tables.specs.Figures.{weight, ContextsSound}
-use Rattle.tables.specs.ContextSteps.{Known}
+use Rattle.tables.specs.Figures.{weight}
+use Rattle.tables.specs.ContextSteps.{Known, Stands}
 use Rattle.tables.proofs.ContextsFall.{context-fallen}
-use Rattle.tables.proofs.ContextRounds.{context-kept}
+use Rattle.tables.proofs.ContextRounds.{context-kept, left-room, known-room}
 use borrow.Author.Needs.{needs}
 use Rattle.tables.proofs.chains.follow_context.Statement.{statement}
 use Rattle.tables.proofs.chains.follow_context.Tie as tie
 
 abbrev Inv-loop : tie.InvT-loop
-Inv-loop words starts n rules sizes owned from leasts contexts₀ r₀ contexts r =
-    (length contexts ≡ length contexts₀) × (weight contexts ≤ weight contexts₀) ×
-    ((g : Grammar) → Known words starts n rules sizes leasts g →
-    ContextsSound g contexts₀ → ContextsSound g contexts)
+Inv-loop words starts n rules sizes owned seen₀ from leasts contexts₀ r₀ seen contexts r =
+    (length contexts ≡ length contexts₀) × (length seen ≡ length seen₀) × (weight contexts ≤ weight contexts₀) ×
+    ((g : Grammar) → Known words starts n rules sizes leasts g → Stands g leasts contexts₀ seen₀ → Stands g leasts contexts seen)
 
 abbrev μ-loop : tie.MeasureT-loop
-μ-loop words starts n rules sizes owned from leasts contexts₀ r₀ contexts r = weight contexts
+μ-loop words starts n rules sizes owned seen₀ from leasts contexts₀ r₀ seen contexts r = weight contexts
 
 loop-holds : tie.Need-loop-holds Inv-loop μ-loop
-loop-holds c = (refl, omega arith, λ g known sound. sound)
+loop-holds c = (refl, refl, omega arith, λ g known stands. stands)
 
-mul-at : tie.Need-mul-at Inv-loop μ-loop
-mul-at c = search needs
-
-element-copy-out-at : tie.Need-element-copy-out-at Inv-loop μ-loop
-element-copy-out-at c = search needs
+index-requires : tie.Need-index-requires Inv-loop μ-loop
+index-requires c κs = search needs
 
 right-requires : tie.Need-right-requires Inv-loop μ-loop
 right-requires c κs = search needs
@@ -44,21 +40,40 @@ element-copy-out-context-of-rule : tie.Need-element-copy-out-context-of-rule Inv
 element-copy-out-context-of-rule c = search needs
 
 context-of-rule-requires : tie.Need-context-of-rule-requires Inv-loop μ-loop
-context-of-rule-requires c κs = search needs
+context-of-rule-requires c κs =
+    let word = c .before .before .before in
+    let right = word .before in
+    let index = right .before in
+    let at = index .before .before in
+    let start = at .before .before .before .before .before .before in
+    let (g, known) = start .pre .1 in
+    let small : at .loop .r < 256 = omega arith in
+    let is = index .index .ensures .0 small in
+    let long : 128 ≤ length (at .loop .contexts) = omega (arith, at .loop .inv .0) in (
+      (right .right .ensures .1, (left-room known (omega arith) long is (word .word .ensures), omega (arith, at .loop .inv .1))),
+      known-room known long,
+    )
 
 same-length : tie.Need-same-length Inv-loop μ-loop
 same-length c = search needs
 
+same-length-2 : tie.Need-same-length-2 Inv-loop μ-loop
+same-length-2 c = search needs
+
 returns : tie.Need-returns Inv-loop μ-loop
 returns c =
-    let lowered = c .before .before .before in
-    let word = lowered .before .before .before in
+    let lowered = c .before .before .before .before .before in
+    let word = lowered .before .before .before .before in
     let right = word .before in
-    let at = right .before .before .before in (
-      omega (arith, at .loop .inv .1, context-fallen (lowered .context-of-rule .ensures)),
-      λ g known sound.
-          context-kept known (omega arith) (omega (arith, at .loop .inv .0)) (word .word .ensures) (right .right .ensures .0) refl
-          (lowered .context-of-rule .ensures) (at .loop .inv .2 g known sound),
+    let index = right .before in
+    let at = index .before .before in
+    let p = at .before .before .before .before .before .before .pre .0 in
+    let small : at .loop .r < 256 = omega (arith, p .0, index .before .loop-test .taken) in (
+      omega (arith, at .loop .inv .2, context-fallen (lowered .context-of-rule .ensures)),
+      λ g known stands.
+          context-kept known (index .before .loop-test .taken) (omega (arith, p .1 .1, at .loop .inv .0))
+          (index .index .ensures .0 small) (word .word .ensures) (right .right .ensures .0) refl
+          (lowered .context-of-rule .ensures) (at .loop .inv .3 g known stands),
     )
 
 link-requires : tie.Need-link-requires Inv-loop μ-loop
@@ -68,26 +83,36 @@ figure-at-requires : tie.Need-figure-at-requires Inv-loop μ-loop
 figure-at-requires c κs = search needs
 
 loop-less : tie.Need-loop-less Inv-loop μ-loop
-loop-less c = omega (arith, context-fallen (c .before .before .before .before .before .context-of-rule .ensures), c .before .before .if1 .left)
+loop-less c =
+    let else = c .before .before in
+    omega (arith, context-fallen (else .before .before .before .before .before .context-of-rule .ensures), else .if1 .left)
 
 loop-again : tie.Need-loop-again Inv-loop μ-loop
 loop-again c =
-    let lowered = c .before .before .before .before .before in
-    let word = lowered .before .before .before in
+    let lowered = c .before .before .before .before .before .before .before in
+    let word = lowered .before .before .before .before in
     let right = word .before in
-    let at = right .before .before .before in (
-      search needs,
-      omega (arith, at .loop .inv .1, context-fallen (lowered .context-of-rule .ensures)),
-      λ g known sound.
-          context-kept known (omega arith) (omega (arith, at .loop .inv .0)) (word .word .ensures) (right .right .ensures .0) refl
-          (lowered .context-of-rule .ensures) (at .loop .inv .2 g known sound),
+    let index = right .before in
+    let at = index .before .before in
+    let p = at .before .before .before .before .before .before .pre .0 in
+    let small : at .loop .r < 256 = omega (arith, p .0, index .before .loop-test .taken) in (
+      lowered .context-of-rule .kept .1 .1 .1 .1 .1 .1 .1 .0 ∙ at .loop .inv .0,
+      lowered .context-of-rule .kept .1 .1 .1 .1 .1 .0 ∙ at .loop .inv .1,
+      omega (arith, at .loop .inv .2, context-fallen (lowered .context-of-rule .ensures)),
+      λ g known stands.
+          context-kept known (index .before .loop-test .taken) (omega (arith, p .1 .1, at .loop .inv .0))
+          (index .index .ensures .0 small) (word .word .ensures) (right .right .ensures .0) refl
+          (lowered .context-of-rule .ensures) (at .loop .inv .3 g known stands),
     )
 
-same-length-2 : tie.Need-same-length-2 Inv-loop μ-loop
-same-length-2 c = search needs
+same-length-3 : tie.Need-same-length-3 Inv-loop μ-loop
+same-length-3 c = search needs
+
+same-length-4 : tie.Need-same-length-4 Inv-loop μ-loop
+same-length-4 c = search needs
 
 returns-2 : tie.Need-returns-2 Inv-loop μ-loop
-returns-2 c = let inv = c .before .loop .inv in (omega (arith, inv .1), inv .2)
+returns-2 c = let inv = c .before .loop .inv in (omega (arith, inv .2), inv .3)
 
 pub follow-context-spec : {M : Type 1} → statement M
 follow-context-spec =
@@ -96,18 +121,19 @@ follow-context-spec =
     Inv-loop
     μ-loop
     loop-holds
-    mul-at
-    element-copy-out-at
+    index-requires
     right-requires
     word-requires
     mul-context-of-rule
     element-copy-out-context-of-rule
     context-of-rule-requires
     same-length
+    same-length-2
     returns
     link-requires
     figure-at-requires
     loop-less
     loop-again
-    same-length-2
+    same-length-3
+    same-length-4
     returns-2)

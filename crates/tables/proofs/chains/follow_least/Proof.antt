@@ -1,6 +1,6 @@
 -- `tables::chains::follow_least` meets its contract: whichever rule is tried, the leasts stay sound. The measure is
 -- the sum of the figures, which falls with each rule but the last. Assumes nothing.
-use Prim.Native.Nat.{_≤_}
+use Prim.Native.Nat.{_≤_, _<_}
 use mathlib.Core.Path.{_≡_, refl}
 use native.Mathlib.Omega.{arith}
 use lib.ListN.{length}
@@ -8,6 +8,7 @@ use Rattle.grammar.specs.Words.{Grammar}
 use Rattle.tables.specs.Figures.{weight, LeastsSound}
 use Rattle.grammar.proofs.RulesInView.{View}
 use Rattle.tables.proofs.LeastRounds.{step-fallen, least-kept}
+use Rattle.tables.proofs.RulesInside.{left-within, nonterminals-within}
 use borrow.Author.Needs.{needs}
 use Rattle.tables.proofs.chains.follow_least.Statement.{statement}
 use Rattle.tables.proofs.chains.follow_least.Tie as tie
@@ -23,11 +24,8 @@ abbrev μ-loop : tie.MeasureT-loop
 loop-holds : tie.Need-loop-holds Inv-loop μ-loop
 loop-holds c = (refl, omega arith, λ g view sound. sound)
 
-mul-at : tie.Need-mul-at Inv-loop μ-loop
-mul-at c = search needs
-
-element-copy-out-at : tie.Need-element-copy-out-at Inv-loop μ-loop
-element-copy-out-at c = search needs
+index-requires : tie.Need-index-requires Inv-loop μ-loop
+index-requires c κs = search needs
 
 word-requires : tie.Need-word-requires Inv-loop μ-loop
 word-requires c κs = search needs
@@ -36,7 +34,18 @@ right-requires : tie.Need-right-requires Inv-loop μ-loop
 right-requires c κs = search needs
 
 lower-least-requires : tie.Need-lower-least-requires Inv-loop μ-loop
-lower-least-requires c κs = search needs
+lower-least-requires c κs =
+    let right = c .before in
+    let word = right .before in
+    let index = word .before in
+    let loop = index .before .before .loop in
+    let few = index .before .before .before .before .before .before .pre .0 in
+    let below = index .before .loop-test .taken in
+    let low : loop .r < 256 = omega (arith, below, few) in
+    let at = index .index .ensures .0 low in
+    let (g, view) = index .before .before .before .before .before .before .pre .1 in
+    let room : 128 ≤ length (loop .leasts) = omega (arith, few, loop .inv .0) in
+    (search needs, rw (word .word .ensures) (left-within view below at room), nonterminals-within view room)
 
 same-length : tie.Need-same-length Inv-loop μ-loop
 same-length c = search needs
@@ -46,11 +55,16 @@ returns c =
     let lowered = c .before .before .before in
     let right = lowered .before .before in
     let word = right .before in
-    let at = word .before .before .before in (
-      omega (arith, at .loop .inv .1, step-fallen (lowered .lower-least .ensures)),
+    let index = word .before in
+    let loop = index .before .before .loop in
+    let few = index .before .before .before .before .before .before .pre .0 in
+    let below = index .before .loop-test .taken in
+    let low : loop .r < 256 = omega (arith, below, few) in
+    let at = index .index .ensures .0 low in (
+      omega (arith, loop .inv .1, step-fallen (lowered .lower-least .ensures)),
       λ g view sound.
-          least-kept view (omega arith) (omega (arith, at .loop .inv .0)) (word .word .ensures) (right .right .ensures .0)
-          (lowered .lower-least .ensures) (at .loop .inv .2 g view sound),
+          least-kept view below (omega (arith, few, loop .inv .0)) at (word .word .ensures) (right .right .ensures .0)
+          (lowered .lower-least .ensures) (loop .inv .2 g view sound),
     )
 
 figure-at-requires : tie.Need-figure-at-requires Inv-loop μ-loop
@@ -64,12 +78,17 @@ loop-again c =
     let lowered = c .before .before .before .before in
     let right = lowered .before .before in
     let word = right .before in
-    let at = word .before .before .before in (
+    let index = word .before in
+    let loop = index .before .before .loop in
+    let few = index .before .before .before .before .before .before .pre .0 in
+    let below = index .before .loop-test .taken in
+    let low : loop .r < 256 = omega (arith, below, few) in
+    let at = index .index .ensures .0 low in (
       search needs,
-      omega (arith, at .loop .inv .1, step-fallen (lowered .lower-least .ensures)),
+      omega (arith, loop .inv .1, step-fallen (lowered .lower-least .ensures)),
       λ g view sound.
-          least-kept view (omega arith) (omega (arith, at .loop .inv .0)) (word .word .ensures) (right .right .ensures .0)
-          (lowered .lower-least .ensures) (at .loop .inv .2 g view sound),
+          least-kept view below (omega (arith, few, loop .inv .0)) at (word .word .ensures) (right .right .ensures .0)
+          (lowered .lower-least .ensures) (loop .inv .2 g view sound),
     )
 
 same-length-2 : tie.Need-same-length-2 Inv-loop μ-loop
@@ -85,8 +104,7 @@ follow-least-spec =
     Inv-loop
     μ-loop
     loop-holds
-    mul-at
-    element-copy-out-at
+    index-requires
     word-requires
     right-requires
     lower-least-requires

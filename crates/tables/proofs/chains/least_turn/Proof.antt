@@ -1,16 +1,15 @@
 -- `tables::chains::least_turn` meets its contract: a turn that lowers nothing is quiet, and what follows another keeps
 -- what is known. Assumes nothing.
+use Prim.Native.Nat.{_<_}
 use native.Mathlib.Omega.{arith}
 use Rattle.tables.proofs.LeastRounds.{step-fallen, least-alone, least-followed}
+use Rattle.tables.proofs.RulesInside.{left-within, nonterminals-within}
 use borrow.Author.Needs.{needs}
 use Rattle.tables.proofs.chains.least_turn.Statement.{statement}
 use Rattle.tables.proofs.chains.least_turn.Tie as tie
 
-mul-at : tie.Need-mul-at
-mul-at c = search needs
-
-element-copy-out-at : tie.Need-element-copy-out-at
-element-copy-out-at c = search needs
+index-requires : tie.Need-index-requires
+index-requires c κs = search needs
 
 word-requires : tie.Need-word-requires
 word-requires c κs = search needs
@@ -19,7 +18,16 @@ right-requires : tie.Need-right-requires
 right-requires c κs = search needs
 
 lower-least-requires : tie.Need-lower-least-requires
-lower-least-requires c κs = search needs
+lower-least-requires c κs =
+    let right = c .before in
+    let word = right .before in
+    let index = word .before in
+    let p = index .before .before .before .before .pre in
+    let low : index .before .before .before .before .args .r < 256 = omega (arith, p .0) in
+    let at = index .index .ensures .0 low in
+    let (g, view) = p .1 in
+    let room = p .0 .1 .1 in
+    (search needs, rw (word .word .ensures) (left-within view (p .0 .1 .0) at room), nonterminals-within view room)
 
 same-length : tie.Need-same-length
 same-length c = search needs
@@ -29,11 +37,14 @@ returns c =
     let lowered = c .before .before .before in
     let right = lowered .before .before in
     let word = right .before in
-    let p = word .before .before .before .before .before .pre in (
+    let index = word .before in
+    let p = index .before .before .before .before .pre in
+    let low : index .before .before .before .before .args .r < 256 = omega (arith, p .0) in
+    let at = index .index .ensures .0 low in (
       (omega arith, omega (arith, step-fallen (lowered .lower-least .ensures), c .if1 .taken)),
       λ g view.
-          least-alone view (p .1 .0) (p .1 .1) (word .word .ensures) (right .right .ensures .0) (lowered .lower-least .ensures)
-          (c .if1 .taken),
+          least-alone view (p .0 .1 .0) (p .0 .1 .1) at (word .word .ensures) (right .right .ensures .0)
+          (lowered .lower-least .ensures) (c .if1 .taken),
     )
 
 figure-at-requires : tie.Need-figure-at-requires
@@ -52,11 +63,14 @@ returns-2 c =
     let lowered = fell .before .before .before in
     let right = lowered .before .before in
     let word = right .before in
-    let p = word .before .before .before .before .before .pre in
+    let index = word .before in
+    let p = index .before .before .before .before .pre in
+    let low : index .before .before .before .before .args .r < 256 = omega (arith, p .0) in
+    let at = index .index .ensures .0 low in
     let first = step-fallen (lowered .lower-least .ensures) in (
       (omega arith, omega (arith, first, followed .follow-least .ensures .0, fell .if1 .left)),
       λ g view.
-          least-followed view (p .1 .0) (p .1 .1) (word .word .ensures) (right .right .ensures .0)
+          least-followed view (p .0 .1 .0) (p .0 .1 .1) at (word .word .ensures) (right .right .ensures .0)
           (lowered .lower-least .ensures) (followed .follow-least .ensures .1 g view),
     )
 
@@ -64,8 +78,7 @@ pub least-turn-spec : {M : Type 1} → statement M
 least-turn-spec =
     tie.close
     (tie.spec
-    mul-at
-    element-copy-out-at
+    index-requires
     word-requires
     right-requires
     lower-least-requires

@@ -15,11 +15,8 @@ abbrev μ-loop : tie.MeasureT-loop
 loop-holds : tie.Need-loop-holds Inv-loop μ-loop
 loop-holds c = refl
 
-mul-right : tie.Need-mul-right Inv-loop μ-loop
-mul-right c = search needs
-
-element-copy-out-right : tie.Need-element-copy-out-right Inv-loop μ-loop
-element-copy-out-right c = search needs
+index-requires : tie.Need-index-requires Inv-loop μ-loop
+index-requires c κs = search needs
 
 right-requires : tie.Need-right-requires Inv-loop μ-loop
 right-requires c κs = search needs
@@ -49,8 +46,7 @@ note-users-spec =
     Inv-loop
     μ-loop
     loop-holds
-    mul-right
-    element-copy-out-right
+    index-requires
     right-requires
     note-symbols-requires
     add-r

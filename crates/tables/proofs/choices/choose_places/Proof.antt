@@ -1,11 +1,12 @@
 -- `tables::choices::choose_places` meets its contract: of the places of the rules that the loop has passed the first that fit
 -- stand, whatever the grammar. The measure is the number of rules to come. Assumes nothing.
-use Prim.Native.Nat.{ℕ, _*_, _≤_, _-_}
-use mathlib.Core.Path.{_≡_, refl, sym, _∙_}
+use Prim.Native.Nat.{_*_, _≤_, _-_}
+use mathlib.Core.Path.{_≡_, refl, ap, _∙_}
 use native.Mathlib.Omega.{arith}
 use borrow.Author.Needs.{needs}
 use lib.ListN.{length}
 use Rattle.grammar.specs.Words.{Grammar}
+use Rattle.grammar.specs.Rules.{rightAt}
 use Rattle.grammar.proofs.LayoutExact.{in-bounds, rule-short}
 use Rattle.tables.specs.Figures.{Empty, PlacesOf}
 use Rattle.tables.proofs.FirstsNoted.{firsts-empty, empty-room}
@@ -26,11 +27,8 @@ loop-holds c =
     let a = c .before .before .before .before .args in
     (omega arith, refl, λ g view empty. firsts-empty _ (g .N) (a .places .now) empty (viewed-room view (omega arith)))
 
-mul-right : tie.Need-mul-right Inv-loop μ-loop
-mul-right c = search needs
-
-element-copy-out-right : tie.Need-element-copy-out-right Inv-loop μ-loop
-element-copy-out-right c = search needs
+index-requires : tie.Need-index-requires Inv-loop μ-loop
+index-requires c κs = search needs
 
 right-requires : tie.Need-right-requires Inv-loop μ-loop
 right-requires c κs = search needs
@@ -44,12 +42,15 @@ element-copy-out-choose-places-of c = search needs
 choose-places-of-requires : tie.Need-choose-places-of-requires Inv-loop μ-loop
 choose-places-of-requires c κs =
     let right = c .before .before .right in
+    let at = c .before .before .before .index in
     let loop = c .before .before .before .before .before .loop in
     let start = c .before .before .before .before .before .before .before .before .before .before in
-    let (g, view) = start .pre .1 in
+    let (g, view) = start .pre .1 .1 in
     let (A, w, rule) = viewed-rule view (loop .r) (omega arith) in
     let short = rule-short (in-bounds (start .args .words .now) (view .is)) rule in
-    (rw (right .ensures .0, viewed-right view rule) short, omega arith)
+    let is = right .ensures .0 ∙ ap (rightAt (start .args .words .now)) (at .ensures .0 (omega arith)) ∙ viewed-right view rule in
+    let room = start .pre .1 .0 in
+    ((rw is short, omega arith), (room .0, (room .1 .0, omega (arith, loop .inv .1))))
 
 add-r : tie.Need-add-r Inv-loop μ-loop
 add-r c = search needs
@@ -61,13 +62,14 @@ loop-again : tie.Need-loop-again Inv-loop μ-loop
 loop-again c =
     let chose = c .before .before .choose-places-of in
     let right = c .before .before .before .before .before .right in
+    let at = c .before .before .before .before .before .before .index in
     let loop = c .before .before .before .before .before .before .before .before .loop in
     let a = c .before .before .before .before .before .before .before .before .before .before .before .before .before .args in (
       omega arith,
       chose .kept .1 .1 .1 .1 .1 .1 .0 ∙ loop .inv .1,
       λ g view empty.
           let (A, w, rule) = viewed-rule view (loop .r) (omega arith) in
-          let read = right .ensures .0 ∙ viewed-right view rule in
+          let read = right .ensures .0 ∙ ap (rightAt (a .words .now)) (at .ensures .0 (omega arith)) ∙ viewed-right view rule in
           let room = empty-room (a .places .now) empty in
           chose .ensures g A (a .totals .now) (in-bounds (a .words .now) (view .is)) (view .nonterminals) (rw read rule) refl
           (omega (arith, loop .inv .1)) (loop .inv .2 g view empty),
@@ -89,8 +91,7 @@ choose-places-spec =
     Inv-loop
     μ-loop
     loop-holds
-    mul-right
-    element-copy-out-right
+    index-requires
     right-requires
     mul-choose-places-of
     element-copy-out-choose-places-of

@@ -1,10 +1,10 @@
 -- `tables::choices::choose_rules` meets its contract: of the rules that the loop has passed the first that fit stand, whatever
 -- the grammar. The measure is the number of rules to come. Assumes nothing.
 use Prim.Native.Nat.{ℕ, _≤_, _-_}
-use mathlib.Core.Path.{_≡_, refl, _∙_}
+use mathlib.Core.Path.{_≡_, refl, ap, _∙_}
 use native.Mathlib.Omega.{arith}
 use borrow.Author.Needs.{needs}
-use lib.ListN.{length}
+use lib.ListN.{length, getD}
 use Rattle.grammar.specs.Words.{Grammar}
 use Rattle.tables.specs.Figures.{Empty, ChosenOf}
 use Rattle.tables.proofs.FirstsNoted.{firsts-empty, empty-room}
@@ -29,11 +29,8 @@ loop-holds c =
       λ g n view empty. firsts-empty _ (g .N) (a .chosen .now) empty (viewed-room view (omega arith)),
     )
 
-mul-word : tie.Need-mul-word Inv-loop μ-loop
-mul-word c = search needs
-
-element-copy-out-word : tie.Need-element-copy-out-word Inv-loop μ-loop
-element-copy-out-word c = search needs
+index-requires : tie.Need-index-requires Inv-loop μ-loop
+index-requires c κs = search needs
 
 word-requires : tie.Need-word-requires Inv-loop μ-loop
 word-requires c κs = search needs
@@ -60,13 +57,15 @@ loop-again : tie.Need-loop-again Inv-loop μ-loop
 loop-again c =
     let chose = c .before .before .choose-rule in
     let word = c .before .before .before .before .before .word in
+    let at = c .before .before .before .before .before .before .index in
     let loop = c .before .before .before .before .before .before .before .before .loop in
     let a = c .before .before .before .before .before .before .before .before .before .before .before .before .args in (
       omega arith,
       chose .kept .1 .1 .1 .1 .0 ∙ loop .inv .1,
       λ g n view empty.
           let room = empty-room (a .chosen .now) empty in
-          let noted = rw (word .ensures) at (chose .ensures) in
+          let left = word .ensures ∙ ap (λ (p : ℕ). getD (a .words .now) p 0) (at .ensures .0 (omega arith)) in
+          let noted = rw left at (chose .ensures) in
           let so-far = loop .inv .2 g n view empty in
           rule-chosen view (a .leasts .now) (a .sizes .now) (loop .r) (omega arith) noted (omega (arith, loop .inv .1))
           (omega arith) so-far,
@@ -88,8 +87,7 @@ choose-rules-spec =
     Inv-loop
     μ-loop
     loop-holds
-    mul-word
-    element-copy-out-word
+    index-requires
     word-requires
     mul-choose-rule
     element-copy-out-choose-rule

@@ -22,11 +22,8 @@ abbrev μ-loop : tie.MeasureT-loop
 loop-holds : tie.Need-loop-holds Inv-loop μ-loop
 loop-holds c = (omega arith, refl, λ k h. absurd (omega arith))
 
-mul-word : tie.Need-mul-word Inv-loop μ-loop
-mul-word c = search needs
-
-element-copy-out-word : tie.Need-element-copy-out-word Inv-loop μ-loop
-element-copy-out-word c = search needs
+index-requires : tie.Need-index-requires Inv-loop μ-loop
+index-requires c κs = search needs
 
 word-requires : tie.Need-word-requires Inv-loop μ-loop
 word-requires c κs = search needs
@@ -66,7 +63,8 @@ loop-again c =
     let at = c .before .before .before in
     let loop = at .before .before .before .before in
     let a = loop .before .before .before .before .args in
-    let left = at .before .word .ensures in
+    let index = at .before .before .index .ensures .0 (omega arith) in
+    let left = at .before .word .ensures ∙ ap (λ (p : ℕ). getD (a .words .now) p 0) index in
     let context = at .figure-at .ensures .0 ∙ ap (figure (a .contexts .now)) left in (
       omega arith,
       simp length-set (loop .loop .inv .1),
@@ -90,8 +88,7 @@ rule-totals-spec =
     Inv-loop
     μ-loop
     loop-holds
-    mul-word
-    element-copy-out-word
+    index-requires
     word-requires
     figure-at-requires
     mul-widened

@@ -2,7 +2,8 @@
 -- rules. Assumes nothing.
 use Prim.Native.Nat.{_-_}
 use native.Mathlib.Omega.{arith}
-use Rattle.tables.specs.Figures.{LeastsSound, LeastQuiet}
+use Rattle.tables.specs.Figures.{LeastsSound}
+use Rattle.tables.specs.LeastSteps.{QuietIfSound}
 use Rattle.tables.proofs.RoundSoFar.{none-so-far, one-more, all-so-far}
 use Rattle.tables.proofs.LeastRounds.{LeastsSoFar}
 use borrow.Author.Needs.{needs}
@@ -16,7 +17,7 @@ abbrev μ-loop : tie.MeasureT-loop
 μ-loop words starts n rules users up leasts₀ fell₀ i₀ leasts fell i = rules - i
 
 loop-holds : tie.Need-loop-holds Inv-loop μ-loop
-loop-holds c = none-so-far _ LeastsSound LeastQuiet _
+loop-holds c = none-so-far _ LeastsSound QuietIfSound _
 
 in-turn-requires : tie.Need-in-turn-requires Inv-loop μ-loop
 in-turn-requires c κs = search needs
@@ -39,14 +40,14 @@ loop-again c =
     let in-turn = turned .before .before in
     let at = in-turn .before .before in
     let e = turned .least-turn .ensures in
-    one-more _ LeastsSound LeastQuiet (omega arith) (at .loop .inv) (in-turn .in-turn .ensures .0) (search needs) (omega (arith, e .0 .0))
-    (e .0 .1) (e .1)
+    one-more _ LeastsSound QuietIfSound (omega arith) (at .loop .inv) (in-turn .in-turn .ensures .0) (search needs)
+    (omega (arith, e .0 .0)) (e .0 .1) (e .1)
 
 same-length : tie.Need-same-length Inv-loop μ-loop
 same-length c = search needs
 
 returns : tie.Need-returns Inv-loop μ-loop
-returns c = let so-far = c .before .loop .inv in (so-far .fallen, all-so-far _ LeastsSound LeastQuiet so-far (omega arith))
+returns c = let so-far = c .before .loop .inv in (so-far .fallen, all-so-far _ LeastsSound QuietIfSound so-far (omega arith))
 
 pub least-round-spec : {M : Type 1} → statement M
 least-round-spec =

@@ -1,8 +1,28 @@
--- `tables::leasts::lower_least` meets its contract: each arm is one of `LeastStep`'s cases. Assumes nothing.
+-- `tables::leasts::lower_least` meets its contract: each way out is one of `LeastStep`'s cases. Assumes nothing.
+use Rattle.tables.specs.LeastSteps.{too-many, not-yet, tried}
+use Rattle.tables.proofs.FiguresFall.{figure-is}
+use native.Mathlib.Omega.{arith}
 use borrow.Author.Needs.{needs}
-use Rattle.tables.specs.LeastSteps.{not-yet, tried}
 use Rattle.tables.proofs.leasts.lower_least.Statement.{statement}
 use Rattle.tables.proofs.leasts.lower_least.Tie as tie
+
+mul-if1 : tie.Need-mul-if1
+mul-if1 c = search needs
+
+slice-read-if1 : tie.Need-slice-read-if1
+slice-read-if1 c = search needs
+
+cast-if1 : tie.Need-cast-if1
+cast-if1 c = omega (arith, c .slice-known2 .given (c .before .before .before .args .left))
+
+add-if1 : tie.Need-add-if1
+add-if1 c = search needs
+
+returns : tie.Need-returns
+returns c =
+    let start = c .before .before .before .before in
+    let a = start .args in
+    too-many (omega (arith, c .if1 .taken, figure-is (a .leasts .now) (a .left) 0 (omega arith)))
 
 rule-size-requires : tie.Need-rule-size-requires
 rule-size-requires c κs = search needs
@@ -22,29 +42,35 @@ lower-requires c κs = search needs
 same-length : tie.Need-same-length
 same-length c = search needs
 
-returns : tie.Need-returns
-returns c = not-yet (rw (c .enum-told .given .1) at (c .before .before .rule-size .ensures))
+returns-2 : tie.Need-returns-2
+returns-2 c = not-yet (rw (c .enum-told .given .1) at (c .before .before .rule-size .ensures))
 
 same-length-2 : tie.Need-same-length-2
 same-length-2 c = search needs
 
-returns-2 : tie.Need-returns-2
-returns-2 c =
-    let sized = c .before .before .before .before .before .before .before .before .rule-size in
-    let size = c .before .before .before .before .before .before .size in
-    let lowered = rw (c .before .before .before .cap .ensures) at (c .before .before .lower .ensures) in
-    tried (size .given .0 .0) (rw (size .given .1) at (sized .ensures)) lowered
+returns-3 : tie.Need-returns-3
+returns-3 c =
+    let capped = c .before .before .before in
+    let found = capped .before .before .before in
+    let sized = rw (found .size .given .1) at (found .before .before .rule-size .ensures) in
+    let lowered = rw (capped .cap .ensures) at (c .before .before .lower .ensures) in
+    tried (found .size .given .0 .0) sized lowered
 
 pub lower-least-spec : {M : Type 1} → statement M
 lower-least-spec =
     tie.close
     (tie.spec
+    mul-if1
+    slice-read-if1
+    cast-if1
+    add-if1
+    returns
     rule-size-requires
     enum-told
     enum-known-size
     cap-requires
     lower-requires
     same-length
-    returns
+    returns-2
     same-length-2
-    returns-2)
+    returns-3)

@@ -1,10 +1,11 @@
 -- `tables::leasts::rule_size` meets its contract: the loop's invariant is `Summed`. The measure is what is left of the length.
 -- Assumes nothing.
 use Prim.Native.Nat.{_≤_, _-_}
+use mathlib.Core.Logic.{⊎-elim}
+use lib.ListN.{length, getD}
+use Rattle.tables.proofs.RuleSummed.{Summed, symbol-read, of-terminal, summed-none, summed-more, summed-all, lacks-size}
 use native.Mathlib.Omega.{arith}
 use borrow.Author.Needs.{needs}
-use lib.ListN.{length}
-use Rattle.tables.proofs.RuleSummed.{Summed, summed-none, summed-more, summed-all, lacks-size}
 use Rattle.tables.proofs.leasts.rule_size.Statement.{statement}
 use Rattle.tables.proofs.leasts.rule_size.Tie as tie
 
@@ -15,31 +16,48 @@ abbrev μ-loop : tie.MeasureT-loop
 μ-loop symbols n leasts sum₀ i₀ sum i = length symbols - i
 
 loop-holds : tie.Need-loop-holds Inv-loop μ-loop
-loop-holds c = let a = c .before .before .args in (omega arith, summed-none (a .n) (a .leasts .now) (a .symbols .now))
+loop-holds c = let a = c .args in (omega arith, summed-none (a .n) (a .leasts .now) (a .symbols .now))
 
-mul-symbol-size : tie.Need-mul-symbol-size Inv-loop μ-loop
-mul-symbol-size c = search needs
+mul-s : tie.Need-mul-s Inv-loop μ-loop
+mul-s c = search needs
 
-shared-slice-read-symbol-size : tie.Need-shared-slice-read-symbol-size Inv-loop μ-loop
-shared-slice-read-symbol-size c = search needs
+shared-slice-read-s : tie.Need-shared-slice-read-s Inv-loop μ-loop
+shared-slice-read-s c = search needs
 
-cast-symbol-size : tie.Need-cast-symbol-size Inv-loop μ-loop
-cast-symbol-size c = omega (arith, c .shared-slice-known3 .given (c .before .before .loop .i))
+cast-s : tie.Need-cast-s Inv-loop μ-loop
+cast-s c = omega (arith, c .shared-slice-known .given (c .before .before .loop .i))
 
-symbol-size-requires : tie.Need-symbol-size-requires Inv-loop μ-loop
-symbol-size-requires c κs = search needs
+mul-size : tie.Need-mul-size Inv-loop μ-loop
+mul-size c = search needs
 
-cast-if1 : tie.Need-cast-if1 Inv-loop μ-loop
-cast-if1 c = search needs
+shared-slice-read-size : tie.Need-shared-slice-read-size Inv-loop μ-loop
+shared-slice-read-size c = search needs
+
+cast-size : tie.Need-cast-size Inv-loop μ-loop
+cast-size c =
+    let a = c .before .before .before .before .before .args in
+    let i = c .before .before .before .before .loop .i in
+    omega (arith, c .shared-slice-known2 .given (getD (a .symbols .now) i 0))
+
+cast-if2 : tie.Need-cast-if2 Inv-loop μ-loop
+cast-if2 c = search needs
 
 returns : tie.Need-returns Inv-loop μ-loop
 returns c =
-    let a = c .before .before .before .before .before .before .before .args in
-    let i = c .before .before .before .before .loop .i in
-    lacks-size (a .n) (a .leasts .now) (a .symbols .now) i (omega arith) (c .before .symbol-size .ensures .0) (c .if1 .taken)
+    let a = c .before .before .before .before .before .before .args in
+    let i = c .before .before .before .before .before .loop .i in
+    let room = c .before .before .before .before .before .before .pre .1 in
+    let read = symbol-read (a .leasts .now) (c .before .before .if1 .taken) room in
+    lacks-size (a .n) (a .leasts .now) (a .symbols .now) i (omega arith) read (c .if2 .taken)
 
 add-sum : tie.Need-add-sum Inv-loop μ-loop
-add-sum c = omega (arith, c .before .before .before .before .loop .inv .1 .small)
+add-sum c =
+    let a = c .before .before .before .before .before .before .args in
+    let loop = c .before .before .before .before .before .loop in
+    omega (arith, loop .inv .1 .small, c .before .shared-slice-known2 .given (getD (a .symbols .now) (loop .i) 0))
+
+add-sum-2 : tie.Need-add-sum-2 Inv-loop μ-loop
+add-sum-2 c = omega (arith, c .before .before .before .loop .inv .1 .small)
 
 add-i : tie.Need-add-i Inv-loop μ-loop
 add-i c = search needs
@@ -49,14 +67,24 @@ loop-less c = search needs
 
 loop-again : tie.Need-loop-again Inv-loop μ-loop
 loop-again c =
-    let a = c .before .before .before .before .before .before .before .args in
-    let (size, small) = c .before .symbol-size .ensures in
-    let so-far = c .before .before .before .before .loop .inv .1 in
-    (omega arith, summed-more (a .n) (a .leasts .now) (a .symbols .now) (omega arith) size (c .if1 .left) small so-far)
+    let a = c .before .before .before .before .args in
+    let room = c .before .before .before .before .pre .1 in
+    let so-far = c .before .before .before .loop .inv .1 in (
+      omega arith,
+      ⊎-elim
+          (λ (if1, known, if2, sum).
+          rw sum (summed-more (a .n) (a .leasts .now) (a .symbols .now) (omega arith)
+          (symbol-read (a .leasts .now) (if1 .taken) room) (if2 .left)
+          (omega (arith, known .given (getD (a .symbols .now) (c .before .before .before .loop .i) 0))) so-far))
+          (λ (if1, sum).
+          rw sum (summed-more (a .n) (a .leasts .now) (a .symbols .now) (omega arith) (of-terminal (if1 .left)) (omega arith)
+          (omega arith) so-far))
+          (c .if1 .came),
+    )
 
 returns-2 : tie.Need-returns-2 Inv-loop μ-loop
 returns-2 c =
-    let a = c .before .before .before .before .args in
+    let a = c .before .before .args in
     summed-all (a .n) (a .leasts .now) (a .symbols .now) (omega arith) (omega arith) (c .before .loop .inv .1)
 
 pub rule-size-spec : {M : Type 1} → statement M
@@ -66,13 +94,16 @@ rule-size-spec =
     Inv-loop
     μ-loop
     loop-holds
-    mul-symbol-size
-    shared-slice-read-symbol-size
-    cast-symbol-size
-    symbol-size-requires
-    cast-if1
+    mul-s
+    shared-slice-read-s
+    cast-s
+    mul-size
+    shared-slice-read-size
+    cast-size
+    cast-if2
     returns
     add-sum
+    add-sum-2
     add-i
     loop-less
     loop-again

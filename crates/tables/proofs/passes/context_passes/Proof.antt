@@ -1,9 +1,11 @@
 -- `tables::passes::context_passes` meets its contract: what is read for the context rule is that rule. Assumes nothing.
-use Prim.Native.Nat.{_+_}
+use Prim.Native.Nat.{_+_, _*_, _<_}
 use native.Mathlib.Omega.{arith}
 use Rattle.tables.proofs.RulesRead.{below-rules}
 use Rattle.tables.proofs.ChoicesRead.{context-there, context-symbol, context-answered}
 use borrow.Author.Needs.{needs}
+use mathlib.Core.Path.{refl, ap, _∙_}
+use Rattle.grammar.specs.Rules.{rightAt}
 use Rattle.tables.proofs.passes.context_passes.Statement.{statement}
 use Rattle.tables.proofs.passes.context_passes.Tie as tie
 
@@ -13,11 +15,8 @@ five-requires c κs = search needs
 returns : tie.Need-returns
 returns c g view p = omega (arith, below-rules view (p .rule), c .before .five .ensures .0)
 
-mul-right : tie.Need-mul-right
-mul-right c = search needs
-
-element-copy-out-right : tie.Need-element-copy-out-right
-element-copy-out-right c = search needs
+index-requires : tie.Need-index-requires
+index-requires c κs = search needs
 
 right-requires : tie.Need-right-requires
 right-requires c κs = search needs
@@ -28,10 +27,13 @@ five-requires-2 c κs = search needs
 returns-2 : tie.Need-returns-2
 returns-2 c g view p =
     let a = c .before .before .before .before .before .before .before .before .args in
+    let five = c .before .before .before .before .before .five in
+    let low : five .result < 256 = omega arith in
+    let found = c .before .before .before .index .ensures .0 low in
     let symbols = c .before .before .right in
-    let by = c .before .before .before .before .before .five .ensures .0 in
+    let read = symbols .ensures .0 ∙ ap (rightAt (a .words .now)) found in
     let place = c .before .five2 .ensures .0 in
-    omega (arith, context-there view (a .table .now) (a .a) by place (symbols .result .now) (symbols .ensures .0) p)
+    omega (arith, context-there view (a .table .now) (a .a) (five .ensures .0) place (symbols .result .now) read p)
 
 mul-if3 : tie.Need-mul-if3
 mul-if3 c = search needs
@@ -45,19 +47,31 @@ cast-if3 c = omega (arith, c .shared-slice-known3 .given (c .before .before .fiv
 returns-3 : tie.Need-returns-3
 returns-3 c g view p =
     let a = c .before .before .before .before .before .before .before .before .before .before .args in
+    let five = c .before .before .before .before .before .before .before .five in
+    let low : five .result < 256 = omega arith in
+    let found = c .before .before .before .before .before .index .ensures .0 low in
     let symbols = c .before .before .before .before .right in
-    let by = c .before .before .before .before .before .before .before .five .ensures .0 in
+    let read = symbols .ensures .0 ∙ ap (rightAt (a .words .now)) found in
     let place = c .before .before .before .five2 .ensures .0 in
-    c .if3 .taken (context-symbol view (a .table .now) (a .a) by place (symbols .result .now) (symbols .ensures .0) p)
+    c .if3 .taken (context-symbol view (a .table .now) (a .a) (five .ensures .0) place (symbols .result .now) read p)
 
-mul-word : tie.Need-mul-word
-mul-word c = search needs
+mul-result : tie.Need-mul-result
+mul-result c = search needs
 
-add-word : tie.Need-add-word
-add-word c = search needs
+add-result : tie.Need-add-result
+add-result c = search needs
 
-word-requires : tie.Need-word-requires
-word-requires c κs = search needs
+mul-result-2 : tie.Need-mul-result-2
+mul-result-2 c = search needs
+
+shared-slice-read-result : tie.Need-shared-slice-read-result
+shared-slice-read-result c = search needs
+
+cast-result : tie.Need-cast-result
+cast-result c =
+    let five = c .before .before .before .before .before .before .before .before in
+    let a = five .before .before .before .args in
+    omega (arith, c .shared-slice-known4 .given (5 * a .n + five .five .result))
 
 five-requires-3 : tie.Need-five-requires-3
 five-requires-3 c κs = search needs
@@ -65,21 +79,23 @@ five-requires-3 c κs = search needs
 five-requires-4 : tie.Need-five-requires-4
 five-requires-4 c κs = search needs
 
-add-result : tie.Need-add-result
-add-result c = search needs
+add-result-2 : tie.Need-add-result-2
+add-result-2 c = search needs
 
 returns-4 : tie.Need-returns-4
 returns-4 c g view =
     let a = c .before .before .before .before .before .before .before .before .before .before .before .before .before .args in
+    let five = c .before .before .before .before .before .before .before .before .before .before .five in
+    let low : five .result < 256 = omega arith in
+    let found = c .before .before .before .before .before .before .before .before .index .ensures .0 low in
     let symbols = c .before .before .before .before .before .before .before .right in
-    let by = c .before .before .before .before .before .before .before .before .before .before .five .ensures .0 in
+    let read = symbols .ensures .0 ∙ ap (rightAt (a .words .now)) found in
     let place = c .before .before .before .before .before .before .five2 .ensures .0 in
-    let total = c .before .before .word in
     let least = c .before .five3 in
     let context = c .five4 in
-    context-answered view (a .table .now) (a .a) by place (symbols .result .now) (symbols .ensures .0)
-    (total .result) (least .result + context .result) (total .ensures) (omega (arith, least .ensures .0, context .ensures .0))
-    (omega arith) (omega arith) (c .before .before .before .if3 .left)
+    context-answered view (a .table .now) (a .a) (five .ensures .0) place (symbols .result .now) read _
+    (least .result + context .result) refl (omega (arith, least .ensures .0, context .ensures .0)) (omega arith) (omega arith)
+    (c .before .before .before .if3 .left)
 
 pub context-passes-spec : {M : Type 1} → statement M
 context-passes-spec =
@@ -87,8 +103,7 @@ context-passes-spec =
     (tie.spec
     five-requires
     returns
-    mul-right
-    element-copy-out-right
+    index-requires
     right-requires
     five-requires-2
     returns-2
@@ -96,10 +111,12 @@ context-passes-spec =
     shared-slice-read-if3
     cast-if3
     returns-3
-    mul-word
-    add-word
-    word-requires
+    mul-result
+    add-result
+    mul-result-2
+    shared-slice-read-result
+    cast-result
     five-requires-3
     five-requires-4
-    add-result
+    add-result-2
     returns-4)

@@ -2,22 +2,33 @@
 use Prim.Native.Nat.{_+_, _*_}
 use native.Mathlib.Omega.{arith}
 use borrow.Author.Needs.{needs}
+use mathlib.Core.Path.{refl}
 use Rattle.tables.proofs.passes.five.Statement.{statement}
 use Rattle.tables.proofs.passes.five.Tie as tie
 
-mul-word : tie.Need-mul-word
-mul-word c = search needs
+mul-result : tie.Need-mul-result
+mul-result c = search needs
 
-add-word : tie.Need-add-word
-add-word c = search needs
+add-result : tie.Need-add-result
+add-result c = search needs
 
-word-requires : tie.Need-word-requires
-word-requires c κs = search needs
+mul-result-2 : tie.Need-mul-result-2
+mul-result-2 c = search needs
+
+shared-slice-read-result : tie.Need-shared-slice-read-result
+shared-slice-read-result c = search needs
+
+cast-result : tie.Need-cast-result
+cast-result c =
+    let a = c .before .args in
+    omega (arith, c .shared-slice-known .given (5 * a .a + a .which))
 
 returns : tie.Need-returns
 returns c =
-    let a = c .before .before .args in
-    (c .word .ensures, omega (arith, c .word .ensures, c .before .shared-slice-known .given (5 * a .a + a .which)))
+    let a = c .before .args in
+    (refl, omega (arith, c .shared-slice-known .given (5 * a .a + a .which)))
 
 pub five-spec : {M : Type 1} → statement M
-five-spec = tie.close (tie.spec mul-word add-word word-requires returns)
+five-spec =
+    tie.close
+    (tie.spec mul-result add-result mul-result-2 shared-slice-read-result cast-result returns)

@@ -21,22 +21,24 @@ returns-2 c g e p =
     let right = c .before .before .right in
     places-fail (rw (right .ensures .0, e) at (sized .ensures .0)) (c .if2 .taken) (p .places)
 
-word-requires : tie.Need-word-requires
-word-requires c κs = search needs
+mul-left-passes : tie.Need-mul-left-passes
+mul-left-passes c = search needs
+
+shared-slice-read-left-passes : tie.Need-shared-slice-read-left-passes
+shared-slice-read-left-passes c = search needs
+
+cast-left-passes : tie.Need-cast-left-passes
+cast-left-passes c = search needs
 
 left-passes-requires : tie.Need-left-passes-requires
-left-passes-requires c κs =
-    let words = c .before .before .before .before .before .before in
-    let left = words .shared-slice-known .given (words .before .args .at) in
-    (omega (arith, c .word .ensures, left), c .before .before .size-passes .ensures .1)
+left-passes-requires c κs = search needs
 
 returns-3 : tie.Need-returns-3
 returns-3 c g e =
     let sized = c .before .before .before .size-passes in
     let right = c .before .before .before .before .right in
     let z = rw (right .ensures .0, e) at (sized .ensures .0) in
-    says-same (c .left-passes .result) (rule-passes g (omega arith) z (c .before .before .if2 .left))
-    (rw (c .before .word .ensures) at (c .left-passes .ensures))
+    says-same (c .left-passes .result) (rule-passes g (omega arith) z (c .before .before .if2 .left)) (c .left-passes .ensures)
 
 pub rule-passes-spec : {M : Type 1} → statement M
 rule-passes-spec =
@@ -46,6 +48,8 @@ rule-passes-spec =
     right-requires
     size-passes-requires
     returns-2
-    word-requires
+    mul-left-passes
+    shared-slice-read-left-passes
+    cast-left-passes
     left-passes-requires
     returns-3)

@@ -1,6 +1,6 @@
 -- `tables::passes::rules_pass` meets its contract: each rule that the loop has passed is right. The measure is what is left of
 -- the rules. Assumes nothing.
-use Prim.Native.Nat.{ℕ, _≤_, _<_, _-_}
+use Prim.Native.Nat.{ℕ, _+_, _*_, _≤_, _<_, _-_}
 use native.Mathlib.Omega.{arith}
 use mathlib.Core.List.{List}
 use borrow.Author.Count.{below-more}
@@ -11,6 +11,8 @@ use Rattle.tables.specs.Tests.{RulePasses}
 use Rattle.tables.proofs.Telling.{told, refuted}
 use Rattle.tables.proofs.RulesRead.{below-rules, rule-answered}
 use borrow.Author.Needs.{needs}
+use mathlib.Core.Path.{refl}
+use Rattle.tables.proofs.RulesInside.{inside, left-below}
 use Rattle.tables.proofs.passes.rules_pass.Statement.{statement}
 use Rattle.tables.proofs.passes.rules_pass.Tie as tie
 
@@ -26,32 +28,44 @@ abbrev μ-loop : tie.MeasureT-loop
 loop-holds : tie.Need-loop-holds Inv-loop μ-loop
 loop-holds c = (omega arith, λ k h. absurd (omega arith))
 
+index-requires : tie.Need-index-requires Inv-loop μ-loop
+index-requires c κs = search needs
+
 mul-rule-passes : tie.Need-mul-rule-passes Inv-loop μ-loop
 mul-rule-passes c = search needs
 
-element-copy-out-rule-passes : tie.Need-element-copy-out-rule-passes Inv-loop μ-loop
-element-copy-out-rule-passes c = search needs
+add-rule-passes : tie.Need-add-rule-passes Inv-loop μ-loop
+add-rule-passes c = search needs
 
-mul-word : tie.Need-mul-word Inv-loop μ-loop
-mul-word c = search needs
+mul-rule-passes-2 : tie.Need-mul-rule-passes-2 Inv-loop μ-loop
+mul-rule-passes-2 c = search needs
 
-add-word : tie.Need-add-word Inv-loop μ-loop
-add-word c = search needs
+shared-slice-read-rule-passes : tie.Need-shared-slice-read-rule-passes Inv-loop μ-loop
+shared-slice-read-rule-passes c = search needs
 
-word-requires : tie.Need-word-requires Inv-loop μ-loop
-word-requires c κs = search needs
+cast-rule-passes : tie.Need-cast-rule-passes Inv-loop μ-loop
+cast-rule-passes c =
+    let a = c .before .before .before .before .before .before .args in
+    omega (arith, c .shared-slice-known3 .given (5 * a .n + c .before .before .before .loop .r))
 
 rule-passes-requires : tie.Need-rule-passes-requires Inv-loop μ-loop
-rule-passes-requires c κs = search needs
+rule-passes-requires c κs =
+    let view = c .before .before .before .before .before .before .pre .1 .1 in
+    let r = c .before .before .before .loop .r in
+    let low : r < 256 = omega arith in
+    let found = c .before .index .ensures .0 low in
+    (inside view (omega arith) found, left-below view (omega arith) found, omega arith)
 
 returns : tie.Need-returns Inv-loop μ-loop
 returns c g view p =
     let a = c .before .before .before .before .before .before .before .before .args in
     let r = c .before .before .before .before .before .loop .r in
+    let low : r < 256 = omega arith in
+    let found = c .before .before .before .index .ensures .0 low in
     let tested = c .before .rule-passes in
     refuted (tested .result)
-    (rule-answered view (a .table .now) r (c .before .before .word .result) (c .before .before .word .ensures) (omega arith)
-    (tested .result) (tested .ensures g (view .nonterminals)))
+    (rule-answered view (a .table .now) r _ refl (omega arith) (tested .result)
+    (rw found at (tested .ensures g (view .nonterminals))))
     (c .if1 .taken) (p r)
 
 add-r : tie.Need-add-r Inv-loop μ-loop
@@ -64,12 +78,14 @@ loop-again : tie.Need-loop-again Inv-loop μ-loop
 loop-again c =
     let a = c .before .before .before .before .before .before .before .before .args in
     let r = c .before .before .before .before .before .loop .r in
+    let low : r < 256 = omega arith in
+    let found = c .before .before .before .index .ensures .0 low in
     let tested = c .before .rule-passes in (
       omega arith,
       below-more _ r (c .before .before .before .before .before .loop .inv .1) (λ g view.
           told (tested .result)
-          (rule-answered view (a .table .now) r (c .before .before .word .result) (c .before .before .word .ensures) (omega arith)
-          (tested .result) (tested .ensures g (view .nonterminals)))
+          (rule-answered view (a .table .now) r _ refl (omega arith) (tested .result)
+          (rw found at (tested .ensures g (view .nonterminals))))
           (c .if1 .left)),
     )
 
@@ -83,11 +99,12 @@ rules-pass-spec =
     Inv-loop
     μ-loop
     loop-holds
+    index-requires
     mul-rule-passes
-    element-copy-out-rule-passes
-    mul-word
-    add-word
-    word-requires
+    add-rule-passes
+    mul-rule-passes-2
+    shared-slice-read-rule-passes
+    cast-rule-passes
     rule-passes-requires
     returns
     add-r

@@ -29,7 +29,7 @@ cast-s : tie.Need-cast-s Inv-loop μ-loop
 cast-s c = omega (arith, c .shared-slice-known3 .given (c .before .before .loop .i))
 
 place-passes-requires : tie.Need-place-passes-requires Inv-loop μ-loop
-place-passes-requires c κs = omega (arith, c .before .shared-slice-known3 .given (c .before .before .before .loop .i))
+place-passes-requires c κs = search needs
 
 returns : tie.Need-returns Inv-loop μ-loop
 returns c =
@@ -38,9 +38,7 @@ returns c =
     (place-fails (omega arith) (omega arith) fails, omega arith)
 
 five-requires : tie.Need-five-requires Inv-loop μ-loop
-five-requires c κs =
-    let read = c .before .before .before in
-    (omega (arith, read .shared-slice-known3 .given (read .before .before .loop .i)), omega arith)
+five-requires c κs = search needs
 
 add-sum : tie.Need-add-sum Inv-loop μ-loop
 add-sum c = omega (arith, c .before .before .before .before .before .before .loop .inv .1 .small, c .five .ensures .1)

@@ -3,7 +3,8 @@
 use mathlib.Core.Path.{refl}
 use native.Mathlib.Omega.{arith}
 use borrow.Author.Needs.{needs}
-use Rattle.tables.proofs.Outcomes.{view-few, refuses-7, refuses-3, writes}
+use Rattle.grammar.proofs.WordsRead.{view-few}
+use Rattle.tables.proofs.Outcomes.{placed-room, all-placed, refuses-7, refuses-3, writes}
 use Rattle.tables.proofs.worked_out.of_contexts.Statement.{statement}
 use Rattle.tables.proofs.worked_out.of_contexts.Tie as tie
 
@@ -72,7 +73,8 @@ choose-places-requires : tie.Need-choose-places-requires
 choose-places-requires c κs =
     let searched = c .before .before .before .before .before .before .before .before in
     let p = searched .before .before .before .before .before .before .before .before .before .pre in
-    (omega (arith, view-few (p .view)), (p .grammar, p .view))
+    let few = view-few (p .view) in
+    (omega (arith, few), ((placed-room p .0, (placed-room p .1, omega (arith, few))), (p .grammar, p .view)))
 
 slice-aggregate-write : tie.Need-slice-aggregate-write
 slice-aggregate-write c = search needs
@@ -84,8 +86,9 @@ write-requires : tie.Need-write-requires
 write-requires c κs =
     let room = c .before .before .before .before .before .before .before .before .before .before .before in
     let searched = room .before .before .before in
-    let few = view-few (searched .before .before .before .before .before .before .before .before .before .pre .view) in
-    (omega (arith, few), omega (arith, few), room .if1 .left)
+    let p = searched .before .before .before .before .before .before .before .before .before .pre in
+    let few = view-few (p .view) in
+    ((omega (arith, few), omega (arith, few), room .if1 .left), all-placed p (omega (arith, few)) (omega (arith, few)))
 
 same-length : tie.Need-same-length
 same-length c = search needs

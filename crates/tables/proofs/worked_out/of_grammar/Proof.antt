@@ -2,19 +2,23 @@
 -- Assumes nothing.
 use mathlib.Core.Path.{refl}
 use native.Mathlib.Omega.{arith}
+use Rattle.grammar.proofs.WordsRead.{view-few}
+use Rattle.tables.proofs.Outcomes.{leasts-start, refuses-5, grown}
 use borrow.Author.Needs.{needs}
-use Rattle.tables.proofs.Outcomes.{read-few, viewed, leasts-start, refuses-5, grown}
 use Rattle.tables.proofs.worked_out.of_grammar.Statement.{statement}
 use Rattle.tables.proofs.worked_out.of_grammar.Tie as tie
-
-find-requires : tie.Need-find-requires
-find-requires c κs = search needs
 
 slice-aggregate-least-rounds : tie.Need-slice-aggregate-least-rounds
 slice-aggregate-least-rounds c = search needs
 
+slice-aggregate-least-rounds-2 : tie.Need-slice-aggregate-least-rounds-2
+slice-aggregate-least-rounds-2 c = search needs
+
 least-rounds-requires : tie.Need-least-rounds-requires
-least-rounds-requires c κs = (omega (arith, read-few (c .before .before .before .before .before .before .pre)), search needs)
+least-rounds-requires c κs =
+    let p = c .before .before .before .before .pre in
+    let few = view-few (p .view) in
+    ((omega (arith, few), search needs, search needs), (p .grammar, p .view))
 
 slice-aggregate-first-above : tie.Need-slice-aggregate-first-above
 slice-aggregate-first-above c = search needs
@@ -34,12 +38,11 @@ refuse-requires c κs = search needs
 returns : tie.Need-returns
 returns c =
     let searched = c .before .before .before .before in
-    let rounds = searched .before .before .before in
-    let found = rounds .before .before .before in
-    let p = found .before .before .before .before .pre in
-    let view = viewed p _ (found .find .ensures) in
-    let rest = rounds .least-rounds .ensures (p .grammar) view (leasts-start p refl) in
-    refuses-5 (p .grammar) view (p .first) rest (searched .first-above .ensures) (c .before .before .a .given .1) (c .refuse .ensures)
+    let rounds = searched .before .before .before .before in
+    let p = rounds .before .before .before .before .before .pre in
+    let sized = rounds .least-rounds .ensures (p .grammar) (p .view) (leasts-start p refl) in
+    let found = c .before .before .a .given .1 in
+    refuses-5 (p .grammar) (p .view) (p .first) sized (searched .first-above .ensures) found (c .refuse .ensures)
 
 enum-told : tie.Need-enum-told
 enum-told c = search needs
@@ -50,13 +53,10 @@ slice-aggregate-of-leasts c = search needs
 of-leasts-requires : tie.Need-of-leasts-requires
 of-leasts-requires c κs =
     let searched = c .before .before .before .before .before in
-    let rounds = searched .before .before .before in
-    let found = rounds .before .before .before in
-    let p = found .before .before .before .before .pre in
-    let view = viewed p _ (found .find .ensures) in
-    let rest = rounds .least-rounds .ensures (p .grammar) view (leasts-start p refl) in
-    let told = c .before .before .before .enum-told .given .1 in
-    grown (p .grammar) view (p .first) rest (searched .first-above .ensures) told
+    let rounds = searched .before .before .before .before in
+    let p = rounds .before .before .before .before .before .pre in
+    let sized = rounds .least-rounds .ensures (p .grammar) (p .view) (leasts-start p refl) in
+    grown (p .grammar) (p .view) (p .first) sized (searched .first-above .ensures) (c .before .before .before .enum-told .given .1)
 
 same-length : tie.Need-same-length
 same-length c = search needs
@@ -68,8 +68,8 @@ pub of-grammar-spec : {M : Type 1} → statement M
 of-grammar-spec =
     tie.close
     (tie.spec
-    find-requires
     slice-aggregate-least-rounds
+    slice-aggregate-least-rounds-2
     least-rounds-requires
     slice-aggregate-first-above
     cast-first-above

@@ -4,29 +4,25 @@ use mathlib.Core.Path.{refl}
 use native.Mathlib.Omega.{arith}
 use borrow.Author.Needs.{needs}
 use lib.ListN.{length-set}
-use Rattle.tables.proofs.Outcomes.{view-few, start-few, contexts-start, refuses-6, placed}
+use Rattle.grammar.proofs.WordsRead.{view-few}
+use Rattle.tables.proofs.Outcomes.{start-few, contexts-start, refuses-6, placed}
 use Rattle.tables.proofs.worked_out.of_leasts.Statement.{statement}
 use Rattle.tables.proofs.worked_out.of_leasts.Tie as tie
 
-slice-aggregate-rule-sizes : tie.Need-slice-aggregate-rule-sizes
-slice-aggregate-rule-sizes c = search needs
-
-rule-sizes-requires : tie.Need-rule-sizes-requires
-rule-sizes-requires c κs = (omega (arith, view-few (c .before .before .before .before .pre .view)), search needs)
-
 mul-contexts : tie.Need-mul-contexts
-mul-contexts c = omega (arith, start-few (c .before .before .before .before .before .before .pre))
+mul-contexts c = omega (arith, start-few (c .before .before .before .pre))
 
 array-write-contexts : tie.Need-array-write-contexts
-array-write-contexts c = start-few (c .before .before .before .before .before .before .pre)
+array-write-contexts c = start-few (c .before .before .before .pre)
 
 slice-aggregate-context-rounds : tie.Need-slice-aggregate-context-rounds
 slice-aggregate-context-rounds c = search needs
 
 context-rounds-requires : tie.Need-context-rounds-requires
 context-rounds-requires c κs =
-    let few = view-few (c .before .before .before .before .before .before .before .before .pre .view) in
-    (omega (arith, few), simp length-set (search needs))
+    let p = c .before .before .before .before .pre in
+    let few = view-few (p .view) in
+    ((omega (arith, few), simp length-set (search needs)), (p .grammar, record { view = p .view; done = p .leasts; sized = p .sizes-are }))
 
 slice-aggregate-first-above : tie.Need-slice-aggregate-first-above
 slice-aggregate-first-above c = search needs
@@ -45,12 +41,11 @@ refuse-requires c κs = search needs
 
 returns : tie.Need-returns
 returns c =
-    let rounds = c .before .before .before .before .before .before .before in
-    let sizes = rounds .before .before .before .before in
-    let p = sizes .before .before .before .before .before .pre in
-    let sized = sizes .rule-sizes .ensures (p .grammar) (p .view) (p .leasts) in
-    let rest = rounds .context-rounds .ensures (p .grammar) (p .view) (p .leasts) sized (contexts-start p refl) in
-    refuses-6 p rest (c .before .before .before .before .first-above .ensures) (c .before .before .a .given .1) (c .refuse .ensures)
+    let searched = c .before .before .before .before in
+    let rounds = searched .before .before .before in
+    let p = rounds .before .before .before .before .before .pre in
+    let rest = rounds .context-rounds .ensures (p .grammar) (p .view) (p .leasts) (p .sizes-are) (contexts-start p refl) in
+    refuses-6 p rest (searched .first-above .ensures) (c .before .before .a .given .1) (c .refuse .ensures)
 
 enum-told : tie.Need-enum-told
 enum-told c = search needs
@@ -60,13 +55,11 @@ slice-aggregate-of-contexts c = search needs
 
 of-contexts-requires : tie.Need-of-contexts-requires
 of-contexts-requires c κs =
-    let searched = c .before .before .before .before .before in
+    let searched = c .before .before .before .before in
     let rounds = searched .before .before .before in
-    let sizes = rounds .before .before .before .before in
-    let p = sizes .before .before .before .before .before .pre in
-    let sized = sizes .rule-sizes .ensures (p .grammar) (p .view) (p .leasts) in
-    let rest = rounds .context-rounds .ensures (p .grammar) (p .view) (p .leasts) sized (contexts-start p refl) in
-    placed p rest (searched .first-above .ensures) (c .before .before .before .enum-told .given .1) sized
+    let p = rounds .before .before .before .before .before .pre in
+    let rest = rounds .context-rounds .ensures (p .grammar) (p .view) (p .leasts) (p .sizes-are) (contexts-start p refl) in
+    placed p rest (searched .first-above .ensures) (c .before .before .enum-told .given .1)
 
 same-length : tie.Need-same-length
 same-length c = search needs
@@ -78,8 +71,6 @@ pub of-leasts-spec : {M : Type 1} → statement M
 of-leasts-spec =
     tie.close
     (tie.spec
-    slice-aggregate-rule-sizes
-    rule-sizes-requires
     mul-contexts
     array-write-contexts
     slice-aggregate-context-rounds

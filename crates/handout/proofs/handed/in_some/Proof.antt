@@ -1,0 +1,44 @@
+-- `handout::handed::in_some` meets its contract: a larger one has it in more. Assumes nothing.
+use borrow.Author.Needs.{needs}
+use Rattle.handout.proofs.NextOutcomes.{room-by-total}
+use Rattle.handout.proofs.handed.in_some.Statement.{statement}
+use Rattle.handout.proofs.handed.in_some.Tie as tie
+
+slice-aggregate-in-room : tie.Need-slice-aggregate-in-room
+slice-aggregate-in-room c = search needs
+
+slice-aggregate-in-room-2 : tie.Need-slice-aggregate-in-room-2
+slice-aggregate-in-room-2 c = search needs
+
+slice-aggregate-in-room-3 : tie.Need-slice-aggregate-in-room-3
+slice-aggregate-in-room-3 c = search needs
+
+in-room-requires : tie.Need-in-room-requires
+in-room-requires c κs =
+    let (p, few) = c .before .before .before .before .before .before .before .before .before .before .before .pre in
+    (p, room-by-total (p .prepared) (p .is) (search needs) (search needs))
+
+same-length : tie.Need-same-length
+same-length c = search needs
+
+same-length-2 : tie.Need-same-length-2
+same-length-2 c = search needs
+
+same-length-3 : tie.Need-same-length-3
+same-length-3 c = search needs
+
+returns : tie.Need-returns
+returns c = search needs
+
+pub in-some-spec : {M : Type 1} → statement M
+in-some-spec =
+    tie.close
+    (tie.spec
+    slice-aggregate-in-room
+    slice-aggregate-in-room-2
+    slice-aggregate-in-room-3
+    in-room-requires
+    same-length
+    same-length-2
+    same-length-3
+    returns)
