@@ -1,5 +1,6 @@
 pub mod WordsAndOctets
 pub mod WrittenFront
+pub mod BlockFilled
 pub mod GoodFile
 pub mod RowsOfJudged
 pub mod Settles

@@ -1,3 +1,4 @@
 pub mod File
 pub mod Promise
 pub mod Judged
+pub mod Blocks

@@ -3,12 +3,14 @@
 // grammar shape, and neither has a `requires`: what the input can break is answered by a refusal, which changes no
 // buffer.
 ghost use mathlib.Core.Path.{_≡_};
+ghost use mathlib.Core.List.{_++_};
 ghost use Prim.Native.Nat.{_+_, _*_, _/_, _%_, _≤_, _<_};
-ghost use lib.ListN.{length, take, getD, set};
+ghost use lib.ListN.{length, take, drop, getD, set};
 ghost use Rattle.packed.specs.File.{wordOf, wordsIn, fileOf};
 ghost use Rattle.answers.specs.Buffers.{over};
 ghost use Rattle.packed.specs.Promise.{Unpacked, Packed};
 ghost use Rattle.packed.specs.Judged.{Judged};
+ghost use Rattle.packed.specs.Blocks.{Spelled, Exchanged};
 
 // What both answer: the length written, or the refusal's number and place.
 pub enum FileAnswer {
@@ -30,6 +32,10 @@ const HEADER: usize = 3;
 const MOST_WORDS: usize = 8707;
 
 const MOST_OCTETS: usize = 2 * MOST_WORDS;
+
+// How many words are taken at once, the last ones of a file. All are read before one is written, and so the compiler takes them as
+// one, and need not ask whether what is lent overlaps; nor is there a rest to take singly.
+const BLOCK: usize = 8;
 
 // The word that two octets spell, the high one first.
 fn word(high: u8, low: u8) -> u16
@@ -78,21 +84,22 @@ fn judge(file: &[u8]) -> FileAnswer
     if all < HEADER {
         return refuse(answers::BAD_LENGTH, LENGTH_PLACE);
     }
+    let octets = all - HEADER;
     let said = word(file[LENGTH_PLACE], file[LENGTH_PLACE + 1]) as usize;
-    if said % 2 != 0 {
+    if said != octets {
         return refuse(answers::BAD_LENGTH, LENGTH_PLACE);
     }
-    if MOST_OCTETS < said {
+    if octets % 2 != 0 {
         return refuse(answers::BAD_LENGTH, LENGTH_PLACE);
     }
-    if said != all - HEADER {
+    if MOST_OCTETS < octets {
         return refuse(answers::BAD_LENGTH, LENGTH_PLACE);
     }
-    FileAnswer::Done(said / 2)
+    FileAnswer::Done(octets / 2)
 }
 
 // The two octets at o as a word in the machine's order, low octet first: only in this order does the compiler make the two reads
-// one, and then take many words at a time in the loop of `read_words`.
+// one, and then take many words at a time in the loop of `read_front`.
 fn low_first(file: &[u8], o: usize) -> u16
     requires { ⌜ o + 1 < length (now file) ⌝ }
     ensures { λ r. ⌜ (r % 256 ≡ getD (now (file .entry)) o 0) × (r / 256 ≡ getD (now (file .entry)) (o + 1) 0) ⌝ }
@@ -100,17 +107,63 @@ fn low_first(file: &[u8], o: usize) -> u16
     word(file[o + 1], file[o])
 }
 
-// Writes the words that the octets after the header spell into the front of words.
-fn read_words(file: &[u8], words: &mut [u16], count: usize)
-    requires { ⌜ length (now file) ≡ 3 + 2 * count ⌝ }
+// Writes the first count of the words that the octets after the header spell into the front of words.
+fn read_front(file: &[u8], words: &mut [u16], count: usize)
+    requires { ⌜ length (now file) ≡ 3 + 2 * length (wordsIn (now file)) ⌝ }
+    requires { ⌜ count ≤ length (wordsIn (now file)) ⌝ }
     requires { ⌜ count ≤ length (now words) ⌝ }
-    ensures { λ _. ⌜ now (words .exit) ≡ over (wordsIn (now (file .entry))) (now (words .entry)) ⌝ }
+    ensures { λ _. ⌜ now (words .exit) ≡ take count (wordsIn (now (file .entry))) ++ drop count (now (words .entry)) ⌝ }
 {
     let mut i: usize = 0;
     while i < count {
         words[i] = exchanged(low_first(file, HEADER + 2 * i));
         i += 1;
     }
+}
+
+// Reads the words that the octets from o on spell, a block of them.
+fn read_block(file: &[u8], o: usize, block: &mut [u16])
+    requires { ⌜ o + 16 ≤ length (now file) ⌝ }
+    requires { ⌜ length (now block) ≡ 8 ⌝ }
+    ensures { λ _. ⌜ Spelled (now (file .entry)) o (now (block .exit)) ⌝ }
+{
+    let mut j: usize = 0;
+    while j < BLOCK {
+        block[j] = exchanged(low_first(file, o + 2 * j));
+        j += 1;
+    }
+}
+
+// Writes the last block of words, where those before it are written.
+fn read_last(file: &[u8], words: &mut [u16], last: usize)
+    requires { ⌜ length (now file) ≡ 3 + 2 * (last + 8) ⌝ }
+    requires { ⌜ last + 8 ≤ length (now words) ⌝ }
+    requires { ⌜ take last (now words) ≡ take last (wordsIn (now file)) ⌝ }
+    ensures { λ _. ⌜ now (words .exit) ≡ over (wordsIn (now (file .entry))) (now (words .entry)) ⌝ }
+{
+    let mut block = [0u16; BLOCK];
+    read_block(file, HEADER + 2 * last, &mut block);
+    let mut j: usize = 0;
+    while j < BLOCK {
+        words[last + j] = block[j];
+        j += 1;
+    }
+}
+
+// Writes the words that the octets after the header spell into the front of words. The front is as many whole blocks as reach the
+// last one; that may begin inside them, and writes some words again.
+fn read_words(file: &[u8], words: &mut [u16], count: usize)
+    requires { ⌜ length (now file) ≡ 3 + 2 * count ⌝ }
+    requires { ⌜ count ≤ length (now words) ⌝ }
+    ensures { λ _. ⌜ now (words .exit) ≡ over (wordsIn (now (file .entry))) (now (words .entry)) ⌝ }
+{
+    if count < BLOCK {
+        read_front(file, words, count);
+        return;
+    }
+    let last = count - BLOCK;
+    read_front(file, words, (last + (BLOCK - 1)) / BLOCK * BLOCK);
+    read_last(file, words, last);
 }
 
 // Reads a file into words. Done carries how many words were written.
@@ -137,17 +190,64 @@ fn put_low_first(file: &mut [u8], o: usize, w: u16)
     file[o + 1] = high(w);
 }
 
-// Writes the two octets of each word, from the header on. Up to there file holds the header already.
+// Writes the two octets of each of the first count words, from the header on. Up to there file holds the header already.
+fn write_front(words: &[u16], file: &mut [u8], count: usize)
+    requires { ⌜ 3 + 2 * length (now words) ≤ length (now file) ⌝ }
+    requires { ⌜ take 3 (now file) ≡ take 3 (fileOf (now words)) ⌝ }
+    requires { ⌜ count ≤ length (now words) ⌝ }
+    ensures { λ _. ⌜ now (file .exit) ≡
+        take (3 + 2 * count) (fileOf (now (words .entry))) ++ drop (3 + 2 * count) (now (file .entry)) ⌝ }
+{
+    let mut i: usize = 0;
+    while i < count {
+        put_low_first(file, HEADER + 2 * i, exchanged(words[i]));
+        i += 1;
+    }
+}
+
+// Exchanges the octets of the words from i on, a block of them.
+fn exchange_block(words: &[u16], i: usize, block: &mut [u16])
+    requires { ⌜ i + 8 ≤ length (now words) ⌝ }
+    requires { ⌜ length (now block) ≡ 8 ⌝ }
+    ensures { λ _. ⌜ Exchanged (now (words .entry)) i (now (block .exit)) ⌝ }
+{
+    let mut j: usize = 0;
+    while j < BLOCK {
+        block[j] = exchanged(words[i + j]);
+        j += 1;
+    }
+}
+
+// Writes the octets of the last block of words, where all before them is written.
+fn write_last(words: &[u16], file: &mut [u8], last: usize)
+    requires { ⌜ last + 8 ≡ length (now words) ⌝ }
+    requires { ⌜ 3 + 2 * length (now words) ≤ length (now file) ⌝ }
+    requires { ⌜ take (3 + 2 * last) (now file) ≡ take (3 + 2 * last) (fileOf (now words)) ⌝ }
+    ensures { λ _. ⌜ now (file .exit) ≡ over (fileOf (now (words .entry))) (now (file .entry)) ⌝ }
+{
+    let mut block = [0u16; BLOCK];
+    exchange_block(words, last, &mut block);
+    let mut j: usize = 0;
+    while j < BLOCK {
+        put_low_first(file, HEADER + 2 * (last + j), block[j]);
+        j += 1;
+    }
+}
+
+// Writes the two octets of each word, from the header on, as `read_words` reads them. Up to there file holds the header already.
 fn write_words(words: &[u16], file: &mut [u8])
     requires { ⌜ 3 + 2 * length (now words) ≤ length (now file) ⌝ }
     requires { ⌜ take 3 (now file) ≡ take 3 (fileOf (now words)) ⌝ }
     ensures { λ _. ⌜ now (file .exit) ≡ over (fileOf (now (words .entry))) (now (file .entry)) ⌝ }
 {
-    let mut i: usize = 0;
-    while i < words.len() {
-        put_low_first(file, HEADER + 2 * i, exchanged(words[i]));
-        i += 1;
+    let count = words.len();
+    if count < BLOCK {
+        write_front(words, file, count);
+        return;
     }
+    let last = count - BLOCK;
+    write_front(words, file, (last + (BLOCK - 1)) / BLOCK * BLOCK);
+    write_last(words, file, last);
 }
 
 // Writes words as a file. Done carries how many octets were written.

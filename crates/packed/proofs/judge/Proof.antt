@@ -1,11 +1,12 @@
 -- `packed::judge` meets its contract: each return is a row of `Judged`, and the tests on the way there are the row's facts.
 -- Assumes nothing.
-use mathlib.Core.Path.{sym, ap, _∙_}
+use mathlib.Core.Path.{_≡_, sym, ap, _∙_}
 use mathlib.Core.List.{List}
-use Prim.Native.Nat.{ℕ, _/_}
+use Prim.Native.Nat.{ℕ, _-_, _/_}
 use native.Mathlib.Omega.{arith}
 use borrow.Author.Needs.{needs}
-use lib.ListN.{length-drop}
+use lib.ListN.{length, getD, length-drop}
+use Rattle.packed.specs.File.{wordOf}
 use Rattle.packed.specs.Promise.{NotVersionOne}
 use Rattle.packed.specs.Promise.NotVersionOne.{empty, first-not-one}
 use Rattle.packed.specs.Promise.BadLength.{under-three, odd, above, not-following}
@@ -66,7 +67,9 @@ returns-4 : tie.Need-returns-4
 unfolding file-at
 returns-4 c =
     let at-word = c .before .before in
-    rw (c .refuse4 .ensures) (judged-length (version-one (at-word .before .before .before .before)) (odd (omega arith)))
+    let at-else = at-word .before .before .before .before in
+    rw (c .refuse4 .ensures)
+    (judged-length (version-one at-else) (not-following (λ e. omega (arith, e, length-drop 3 (file-at at-else)))))
 
 refuse-requires-5 : tie.Need-refuse-requires-5
 refuse-requires-5 c κs = search needs
@@ -75,7 +78,7 @@ returns-5 : tie.Need-returns-5
 unfolding file-at
 returns-5 c =
     let at-word = c .before .before .before in
-    rw (c .refuse5 .ensures) (judged-length (version-one (at-word .before .before .before .before)) (above (omega arith)))
+    rw (c .refuse5 .ensures) (judged-length (version-one (at-word .before .before .before .before)) (odd (omega arith)))
 
 refuse-requires-6 : tie.Need-refuse-requires-6
 refuse-requires-6 c κs = search needs
@@ -84,9 +87,7 @@ returns-6 : tie.Need-returns-6
 unfolding file-at
 returns-6 c =
     let at-word = c .before .before .before .before in
-    let at-else = at-word .before .before .before .before in
-    rw (c .refuse6 .ensures)
-    (judged-length (version-one at-else) (not-following (λ e. omega (arith, e, length-drop 3 (file-at at-else)))))
+    rw (c .refuse6 .ensures) (judged-length (version-one (at-word .before .before .before .before)) (above (omega arith)))
 
 returns-7 : tie.Need-returns-7
 unfolding file-at
@@ -94,7 +95,8 @@ returns-7 c =
     let at-word = c .before .before .before in
     let at-else = at-word .before .before .before .before in
     let file = file-at at-else in
-    rw (ap (λ (n : ℕ). n / 2) (at-word .word .ensures) ∙ sym (counted file (omega arith) (omega arith) (omega arith)))
+    let same : length file - 3 ≡ wordOf (getD file 1 0) (getD file 2 0) = omega (arith, at-word .word .ensures) in
+    rw (ap (λ (n : ℕ). n / 2) same ∙ sym (counted file (omega arith) (omega arith) (omega arith)))
     (judged-good (version-one at-else) (is-good-length file (omega arith) (omega arith) (omega arith) (omega arith)))
 
 pub judge-spec : {M : Type 1} → statement M

@@ -1,103 +1,88 @@
--- `packed::read_words` meets its contract. The invariant of its loop: i is at most `count`, and `words` holds the first i words
--- that the file spells and its own from there on. The measure is `count` less i. Assumes nothing.
-use mathlib.Core.Path.{_≡_, sym, _∙_}
-use mathlib.Core.List.{_++_}
-use Prim.Native.Nat.{_+_, _*_, _-_, _/_, _%_, _≤_, _<_}
+-- `packed::read_words` meets its contract: few words are the front alone; others are a front, and the last block over it.
+-- Assumes nothing.
+use mathlib.Core.Path.{_≡_, ap, _∙_}
+use Prim.Native.Nat.{_+_, _*_, _-_, _/_, _≤_}
 use native.Mathlib.Omega.{arith}
 use borrow.Author.Needs.{needs}
-use lib.ListN.{length, take, drop, getD}
-use Rattle.packed.specs.File.{wordOf, wordsIn}
-use Rattle.packed.proofs.WordsAndOctets.{length-wordsIn, wordsIn-at}
-use Rattle.answers.proofs.WrittenFromFront.{all-over, store-next}
+use lib.ListN.{length}
+use Rattle.packed.specs.File.{wordsIn}
+use Rattle.answers.specs.Buffers.{over}
+use Rattle.answers.proofs.WrittenFromFront.{all-over}
+use Rattle.packed.proofs.WordsAndOctets.{length-wordsIn}
+use Rattle.packed.proofs.BlockFilled.{front-holds, over-again}
 use Rattle.packed.proofs.read_words.Statement.{statement}
 use Rattle.packed.proofs.read_words.Tie as tie
 
-abbrev Inv-loop : tie.InvT-loop
-Inv-loop file words₀ count i₀ words i =
-    (i ≤ count) × ((length words ≡ length words₀) × (words ≡ take i (wordsIn file) ++ drop i words₀))
+read-front-requires : tie.Need-read-front-requires
+read-front-requires c κs =
+    let start = c .before .before .before .before in
+    let long = length-wordsIn (start .args .file .now) (start .args .count) (start .pre .0) in
+    (omega (arith, start .pre .0), (omega arith, omega (arith, start .pre .1)))
 
-abbrev μ-loop : tie.MeasureT-loop
-μ-loop file words₀ count i₀ words i = count - i
-
-loop-holds : tie.Need-loop-holds Inv-loop μ-loop
-loop-holds c = search needs
-
-mul-low-first : tie.Need-mul-low-first Inv-loop μ-loop
-mul-low-first c = search needs
-
-add-low-first : tie.Need-add-low-first Inv-loop μ-loop
-add-low-first c = search needs
-
-low-first-requires : tie.Need-low-first-requires Inv-loop μ-loop
-low-first-requires c κs = search needs
-
-exchanged-requires : tie.Need-exchanged-requires Inv-loop μ-loop
-exchanged-requires c κs = search needs
-
-mul-words : tie.Need-mul-words Inv-loop μ-loop
-mul-words c = search needs
-
-slice-write-words : tie.Need-slice-write-words Inv-loop μ-loop
-slice-write-words c = search needs
-
-add-i : tie.Need-add-i Inv-loop μ-loop
-add-i c = search needs
-
-loop-less : tie.Need-loop-less Inv-loop μ-loop
-loop-less c = search needs
-
-loop-again : tie.Need-loop-again Inv-loop μ-loop
-loop-again c =
-    let at-loop = c .before .before .before in
-    let at-start = at-loop .before .before .before in
-    let i = at-loop .loop .i in
-    let o = 3 + 2 * i in
-    let file = at-start .args .file .now in
-    let words₀ = at-start .args .words .now in
-    let count = at-start .args .count in
-    let more : i < count = search needs in
-    let first : c .exchanged .result / 256 ≡ getD file o 0 = c .exchanged .ensures .0 ∙ c .before .low-first .ensures .0 in
-    let second : c .exchanged .result % 256 ≡ getD file (o + 1) 0 = c .exchanged .ensures .1 ∙ c .before .low-first .ensures .1 in
-    let spelled : c .exchanged .result ≡ wordOf (getD file o 0) (getD file (o + 1) 0) = omega arith in
-    let v : c .exchanged .result ≡ getD (wordsIn file) i 0 =
-    spelled ∙ sym (wordsIn-at file count i (search needs) more) in (
-      search needs,
-      (
-        search needs,
-        rw (at-loop .loop .inv .1 .1, v)
-            (store-next (wordsIn file) words₀ i (omega (arith, length-wordsIn file count (search needs))) (search needs)),
-      ),
-    )
-
-same-length : tie.Need-same-length Inv-loop μ-loop
+same-length : tie.Need-same-length
 same-length c = search needs
 
-returns : tie.Need-returns Inv-loop μ-loop
+returns : tie.Need-returns
 returns c =
-    let at-loop = c .before in
-    let at-start = at-loop .before .before .before in
-    let file = at-start .args .file .now in
-    let words₀ = at-start .args .words .now in
-    let count = at-start .args .count in
-    let past : at-loop .loop .i ≡ count = omega arith in
-    at-loop .loop .inv .1 .1
-    ∙ all-over (wordsIn file) words₀ (at-loop .loop .i) (length-wordsIn file count (search needs) ∙ sym past)
+    let start = c .before .before .before .before .before .before .before in
+    let file = start .args .file .now in
+    let count = start .args .count in
+    c .before .before .read-front .ensures
+    ∙ all-over (wordsIn file) (start .args .words .now) count (length-wordsIn file count (start .pre .0))
+
+sub-read-front : tie.Need-sub-read-front
+sub-read-front c = search needs
+
+add-read-front : tie.Need-add-read-front
+add-read-front c = search needs
+
+mul-read-front : tie.Need-mul-read-front
+mul-read-front c = search needs
+
+read-front-requires-2 : tie.Need-read-front-requires-2
+read-front-requires-2 c κs =
+    let start = c .before .before .before .before in
+    let long = length-wordsIn (start .args .file .now) (start .args .count) (start .pre .0) in
+    (omega (arith, start .pre .0), (omega arith, omega (arith, start .pre .1)))
+
+read-last-requires : tie.Need-read-last-requires
+read-last-requires c κs =
+    let at-front = c .before .before .before in
+    let start = at-front .before .before .before .before .before in
+    let file = start .args .file .now in
+    let count = start .args .count in
+    let long = length-wordsIn file count (start .pre .0) in
+    let f = (count - 8 + 7) / 8 * 8 in
+    let held = front-holds (count - 8) f (wordsIn file) (start .args .words .now) (omega arith) (omega arith) in
+    (omega (arith, start .pre .0), (search needs, rw (at-front .read-front2 .ensures) held))
+
+same-length-2 : tie.Need-same-length-2
+same-length-2 c = search needs
+
+returns-2 : tie.Need-returns-2
+returns-2 c =
+    let at-last = c .before .before in
+    let at-front = at-last .before .before .before .before in
+    let start = at-front .before .before .before .before .before in
+    let file = start .args .file .now in
+    let count = start .args .count in
+    let long = length-wordsIn file count (start .pre .0) in
+    let f = (count - 8 + 7) / 8 * 8 in
+    at-last .read-last .ensures
+    ∙ ap (over (wordsIn file)) (at-front .read-front2 .ensures)
+    ∙ over-again f (wordsIn file) (start .args .words .now) (omega arith) (omega (arith, start .pre .1))
 
 pub read-words-spec : {M : Type 1} → statement M
 read-words-spec =
     tie.close
     (tie.spec
-    Inv-loop
-    μ-loop
-    loop-holds
-    mul-low-first
-    add-low-first
-    low-first-requires
-    exchanged-requires
-    mul-words
-    slice-write-words
-    add-i
-    loop-less
-    loop-again
+    read-front-requires
     same-length
-    returns)
+    returns
+    sub-read-front
+    add-read-front
+    mul-read-front
+    read-front-requires-2
+    read-last-requires
+    same-length-2
+    returns-2)

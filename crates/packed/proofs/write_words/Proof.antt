@@ -1,110 +1,80 @@
--- `packed::write_words` meets its contract. The invariant of its loop: i is at most the number of words, and `file` holds the
--- first `3 + 2 i` octets of the words' file and its own from there on. The measure is the number of words less i.
+-- `packed::write_words` meets its contract: few words are the front alone; others are a front, and the last block over it.
 -- Assumes nothing.
-use mathlib.Core.Path.{_≡_, sym, ap, _∙_}
-use mathlib.Core.List.{List, _++_}
-use Prim.Native.Nat.{ℕ, _+_, _*_, _-_, _≤_, _<_}
+use mathlib.Core.Path.{_≡_, ap, _∙_}
+use Prim.Native.Nat.{_+_, _*_, _-_, _/_, _≤_}
 use native.Mathlib.Omega.{arith}
 use borrow.Author.Needs.{needs}
-use lib.ListN.{length, take, drop, take-append-drop}
+use lib.ListN.{length}
 use Rattle.packed.specs.File.{fileOf}
-use Rattle.packed.proofs.WordsAndOctets.{length-fileOf, fileOf-high, fileOf-low}
+use Rattle.answers.specs.Buffers.{over}
 use Rattle.answers.proofs.WrittenFromFront.{all-over}
-use Rattle.packed.proofs.WrittenFront.{store-two}
+use Rattle.packed.proofs.WordsAndOctets.{length-fileOf}
+use Rattle.packed.proofs.BlockFilled.{front-holds, over-again}
 use Rattle.packed.proofs.write_words.Statement.{statement}
 use Rattle.packed.proofs.write_words.Tie as tie
 
-abbrev Inv-loop : tie.InvT-loop
-Inv-loop words file₀ i₀ file i =
-    (i ≤ length words)
-    × ((length file ≡ length file₀) × (file ≡ take (3 + 2 * i) (fileOf words) ++ drop (3 + 2 * i) file₀))
+write-front-requires : tie.Need-write-front-requires
+write-front-requires c κs = search needs
 
-abbrev μ-loop : tie.MeasureT-loop
-μ-loop words file₀ i₀ file i = length words - i
-
-loop-holds : tie.Need-loop-holds Inv-loop μ-loop
-loop-holds c =
-    let at-start = c .before .before in
-    let file₀ = at-start .args .file .now in
-    let whole = sym (take-append-drop 3 file₀) ∙ ap (λ (l : List ℕ). l ++ drop 3 file₀) (at-start .pre .1) in
-    (search needs, (search needs, whole))
-
-mul-put-low-first : tie.Need-mul-put-low-first Inv-loop μ-loop
-mul-put-low-first c = search needs
-
-add-put-low-first : tie.Need-add-put-low-first Inv-loop μ-loop
-add-put-low-first c = search needs
-
-mul-exchanged : tie.Need-mul-exchanged Inv-loop μ-loop
-mul-exchanged c = search needs
-
-shared-slice-read-exchanged : tie.Need-shared-slice-read-exchanged Inv-loop μ-loop
-shared-slice-read-exchanged c = search needs
-
-exchanged-requires : tie.Need-exchanged-requires Inv-loop μ-loop
-exchanged-requires c κs = search needs
-
-put-low-first-requires : tie.Need-put-low-first-requires Inv-loop μ-loop
-put-low-first-requires c κs = search needs
-
-add-i : tie.Need-add-i Inv-loop μ-loop
-add-i c = search needs
-
-loop-less : tie.Need-loop-less Inv-loop μ-loop
-loop-less c = search needs
-
-loop-again : tie.Need-loop-again Inv-loop μ-loop
-loop-again c =
-    let at-put = c .before .before in
-    let at-exchanged = at-put .before in
-    let at-loop = at-exchanged .before .before .before .before in
-    let at-start = at-loop .before .before .before in
-    let i = at-loop .loop .i in
-    let o = 3 + 2 * i in
-    let words = at-start .args .words .now in
-    let file₀ = at-start .args .file .now in
-    let more : i < length words = search needs in
-    let all = length-fileOf words in (
-      search needs,
-      (
-        search needs,
-        rw (at-put .put-low-first .ensures, at-loop .loop .inv .1 .1)
-            (store-two (fileOf words) file₀ o (3 + 2 * (i + 1)) _ _
-            (omega arith)
-            (omega arith)
-            (omega arith)
-            (at-exchanged .exchanged .ensures .1 ∙ sym (fileOf-high words i more))
-            (at-exchanged .exchanged .ensures .0 ∙ sym (fileOf-low words i more))),
-      ),
-    )
-
-same-length : tie.Need-same-length Inv-loop μ-loop
+same-length : tie.Need-same-length
 same-length c = search needs
 
-returns : tie.Need-returns Inv-loop μ-loop
+returns : tie.Need-returns
 returns c =
-    let at-loop = c .before in
-    let at-start = at-loop .before .before .before in
-    let words = at-start .args .words .now in
-    let past : at-loop .loop .i ≡ length words = omega arith in
-    at-loop .loop .inv .1 .1
-    ∙ all-over (fileOf words) (at-start .args .file .now) (3 + 2 * at-loop .loop .i) (omega (arith, length-fileOf words))
+    let start = c .before .before .before .before .before .before .before in
+    let words = start .args .words .now in
+    c .before .before .write-front .ensures
+    ∙ all-over (fileOf words) (start .args .file .now) (3 + 2 * length words) (length-fileOf words)
+
+sub-write-front : tie.Need-sub-write-front
+sub-write-front c = search needs
+
+add-write-front : tie.Need-add-write-front
+add-write-front c = search needs
+
+mul-write-front : tie.Need-mul-write-front
+mul-write-front c = search needs
+
+write-front-requires-2 : tie.Need-write-front-requires-2
+write-front-requires-2 c κs = search needs
+
+write-last-requires : tie.Need-write-last-requires
+write-last-requires c κs =
+    let at-front = c .before .before .before in
+    let start = at-front .before .before .before .before .before in
+    let words = start .args .words .now in
+    let long = length-fileOf words in
+    let last = length words - 8 in
+    let f = 3 + 2 * ((last + 7) / 8 * 8) in
+    let held = front-holds (3 + 2 * last) f (fileOf words) (start .args .file .now) (omega arith) (omega arith) in
+    (omega arith, (search needs, rw (at-front .write-front2 .ensures) held))
+
+same-length-2 : tie.Need-same-length-2
+same-length-2 c = search needs
+
+returns-2 : tie.Need-returns-2
+returns-2 c =
+    let at-last = c .before .before in
+    let at-front = at-last .before .before .before .before in
+    let start = at-front .before .before .before .before .before in
+    let words = start .args .words .now in
+    let long = length-fileOf words in
+    let f = 3 + 2 * ((length words - 8 + 7) / 8 * 8) in
+    at-last .write-last .ensures
+    ∙ ap (over (fileOf words)) (at-front .write-front2 .ensures)
+    ∙ over-again f (fileOf words) (start .args .file .now) (omega arith) (omega (arith, start .pre .0))
 
 pub write-words-spec : {M : Type 1} → statement M
 write-words-spec =
     tie.close
     (tie.spec
-    Inv-loop
-    μ-loop
-    loop-holds
-    mul-put-low-first
-    add-put-low-first
-    mul-exchanged
-    shared-slice-read-exchanged
-    exchanged-requires
-    put-low-first-requires
-    add-i
-    loop-less
-    loop-again
+    write-front-requires
     same-length
-    returns)
+    returns
+    sub-write-front
+    add-write-front
+    mul-write-front
+    write-front-requires-2
+    write-last-requires
+    same-length-2
+    returns-2)
