@@ -1,5 +1,5 @@
 /* The five calls of Vanchiluk, for C and C++. `rt staticlib calls` writes the archive target/staticlib/libcalls.a, which has them
- * and needs nothing but the C library's memset.
+ * and needs nothing but the C library's memcpy and memset.
  *
  * Each slice is a pointer and a count of elements. A caller owes this, and nothing checks it: no pointer is null, also where the
  * count is 0; each is aligned and points at so many elements; and what a call may write overlaps nothing else that it is lent.
