@@ -17,7 +17,8 @@ use Rattle.handout.specs.Replay as replay
 use Rattle.handout.specs.Replay.{Replay}
 use Rattle.handout.specs.Next as next
 use Rattle.handout.specs.Next.{NextPromise, Lent}
-use Rattle.handout.specs.Night.{Handout, Night, Over, HandedOut, SentenceOf, UsedIn, Proper, AllProper}
+use Rattle.handout.specs.Given.{Given, GivenFinished, GivenNext, Handed, SaysDead}
+use Rattle.handout.specs.Night.{Handout, Night, Over, Enough, GoesOn, HandedOut, SentenceOf, UsedIn, Proper, AllProper}
 use Rattle.handout.specs.declared.ReplayAnswer.{ReplayAnswer}
 use Rattle.handout.specs.declared.ReplayAnswer.the-variants.{Done}
 use Rattle.handout.specs.declared.NextAnswer.{NextAnswer}
@@ -27,14 +28,11 @@ use Rattle.handout.proofs.ReplayExact as ReplayExact
 use Rattle.handout.proofs.NextSettles as NextSettles
 use Rattle.handout.proofs.NextMet as NextMet
 use Rattle.handout.proofs.NextExact as NextExact
-use Rattle.handout.proofs.NextExact.{GivenFinished, GivenNext, Handed}
 use Rattle.handout.proofs.NextDead as NextDead
-use Rattle.handout.proofs.NextDead.{SaysDead}
 use Rattle.handout.proofs.NightProper as NightProper
 use Rattle.handout.proofs.NightCovers as NightCovers
 use Rattle.handout.proofs.HandoutsReplay as HandoutsReplay
 use Rattle.handout.proofs.NightEnds as NightEnds
-use Rattle.handout.proofs.NightEnds.{Enough, GoesOn}
 
 -- REPLAY. Its promise allows exactly one outcome, answer and buffer, for each words, each list and each buffer before.
 pub replay-settles : (words list before : List ℕ) {a a′ : ReplayAnswer} {after after′ : List ℕ} →
@@ -79,7 +77,7 @@ next-met = NextMet.next-met
 
 -- Each answer is given exactly when document 01 says so; `Given` says it of each refusal.
 pub next-refuses : {words table : List ℕ} {before after : Lent} {a : NextAnswer} → NextPromise words table before a after →
-    (r : Refusal) → (a ≡ next.refused r) ↔ NextExact.Given words table before r
+    (r : Refusal) → (a ≡ next.refused r) ↔ Given words table before r
 next-refuses = NextExact.next-refuses
 
 pub next-first-offence : {words table : List ℕ} {before after : Lent} {a : NextAnswer} →

@@ -10,13 +10,10 @@ use Rattle.grammar.specs.Refusals.{Lowest, NoTree, Unreached, AllTrees}
 use Rattle.tables.specs.Dead.{Dead}
 use Rattle.grammar.proofs.LayoutExact.{reads-unique}
 use Rattle.tables.proofs.DeadGrammars.{no-tree-dead, unreached-dead, dead-meets}
-use Rattle.handout.specs.Next.{NextPromise, refused, Lent}
+use Rattle.handout.specs.Next.{NextPromise, Lent}
+use Rattle.handout.specs.Given.{SaysDead}
 use Rattle.handout.specs.declared.NextAnswer.{NextAnswer}
 use Rattle.handout.proofs.NextExact.{next-refuses}
-
--- the answer is 5, or 6
-abbrev pub SaysDead : NextAnswer → Type 0
-SaysDead a = (A : ℕ) × ((a ≡ refused (no-tree A)) ⊎ (a ≡ refused (unreached A)))
 
 module _ (words : List ℕ) {g : Grammar} (e : layout words ≡ reads g) {table : List ℕ} {before after : Lent} {a : NextAnswer} where
   -- DEAD

@@ -8,15 +8,14 @@ use lib.ListN.{length}
 use Rattle.answers.specs.Refusals.{Refusal, not-version-one, bad-length, too-many-words, too-short, broken-layout, no-tree}
 use Rattle.answers.specs.Refusals.{unreached, oversize, not-its-table, few-marks, derivation-short, no-derivation, long-list}
 use Rattle.answers.specs.Buffers.{over}
-use Rattle.answers.proofs.WrittenFromFront.{Written, written}
+use Rattle.answers.proofs.WrittenFromFront.{written}
 use Rattle.grammar.specs.Words.{Grammar, R, layout, faults, FaultAt}
 use Rattle.grammar.specs.Tree.{Tree, sentence, derivation}
 use Rattle.grammar.specs.Refusals.{Lowest, NoTree, AllTrees, Unreached, AllReached, Oversize, Accepted}
 use Rattle.grammar.proofs.FirstOffence.{layout-faults-exact}
-use Rattle.tables.specs.Table.{HasTable}
 use Rattle.tables.proofs.FirstRows.{Are}
-use Rattle.tables.proofs.TestSettles.{Own}
-use Rattle.handout.specs.Next.{NextPromise, refused, AllUsed, Marked, Wanted, Lent}
+use Rattle.handout.specs.Given.{Given, GivenFinished, GivenNext, Handed}
+use Rattle.handout.specs.Next.{NextPromise, refused, Lent}
 use Rattle.handout.specs.Next.{row-4, row-5, row-6, row-7, row-8, row-9, finished, row-3, row-10, next}
 use Rattle.handout.specs.declared.NextAnswer.{NextAnswer}
 use Rattle.handout.specs.declared.NextAnswer.the-variants.{Next, Finished}
@@ -24,50 +23,7 @@ use Rattle.handout.proofs.MarksSettled.{marks-exist}
 use Rattle.handout.proofs.NextSettles.{next-settles}
 
 module _ (words table : List ℕ) (before : Lent) where
-  -- there is a target, and P holds of it, its sentence and its derivation
-  pub record Target (P : ℕ → List ℕ → List ℕ → Type 0) : Type 0 where
-    pub g : Grammar
-    pub r : ℕ
-    pub t : Tree g (g .start)
-    pub wanted : Wanted words table (before .marks) g r t
-    pub holds : P r (sentence t) (derivation t)
-
-  -- "Given exactly when", of each refusal, as `next` gives it: 1, 2, 11 and 12 never
-  abbrev pub Given : Refusal → Type 0
-  Given (broken-layout p) = layout words ≡ faults p
-  Given (no-tree A) = Are words (λ g. Lowest (NoTree g) A)
-  Given (unreached A) = Are words (λ g. AllTrees g × Lowest (Unreached g) A)
-  Given (oversize r) = Are words (λ g. AllTrees g × AllReached g × Lowest (Oversize g) r)
-  Given not-its-table = Are words (λ g. Accepted g × ¬ HasTable g table)
-  Given (few-marks n) = Are words (λ g. Own table g × (n ≡ R g) × (length (before .marks) < n))
-  Given (too-short n) = Target (λ k s d. (n ≡ length s) × (length (before .tokens) < n))
-  Given (derivation-short n) =
-      Target (λ k s d. (length s ≤ length (before .tokens)) × (n ≡ length d) × (length (before .rules) < n))
-  Given not-version-one = ⊥
-  Given bad-length = ⊥
-  Given too-many-words = ⊥
-  Given (no-derivation p) = ⊥
-  Given long-list = ⊥
-
-  -- and of Finished
-  abbrev pub GivenFinished : Type 0
-  GivenFinished = Are words (λ g. Own table g × (R g ≤ length (before .marks)) × AllUsed g (before .marks))
-
-  -- and of Next
-  abbrev pub GivenNext : ℕ → ℕ → ℕ → Type 0
-  GivenNext r n m =
-      Target (λ k s d.
-      (r ≡ k) × (n ≡ length s) × (m ≡ length d) × (n ≤ length (before .tokens)) × (m ≤ length (before .rules)))
-
-  -- what Next r n m says of the buffers: the sentence and the derivation in front, what lay behind them, and the marks set
-  pub record Handed (after : Lent) (r n m : ℕ) (g : Grammar) : Type 0 where
-    pub t : Tree g (g .start)
-    pub wanted : Wanted words table (before .marks) g r t
-    pub tokens : Written (sentence t) (before .tokens) n (after .tokens)
-    pub rules : Written (derivation t) (before .rules) m (after .rules)
-    pub marks : Marked (derivation t) (before .marks) (after .marks)
-
-  only : {after : Lent} (r : Refusal) → NextPromise words table before (refused r) after → Given r × (after ≡ before)
+  only : {after : Lent} (r : Refusal) → NextPromise words table before (refused r) after → Given words table before r × (after ≡ before)
   only (broken-layout p) (row-4 e) = (e, refl)
   only (no-tree A) (row-5 {g = g} e low) = ((g, e, low), refl)
   only (unreached A) (row-6 {g = g} e t low) = ((g, e, (t, low)), refl)
@@ -84,7 +40,7 @@ module _ (words table : List ℕ) (before : Lent) where
   only (no-derivation q) p = elim p [ ]
   only long-list p = elim p [ ]
 
-  allowed : (r : Refusal) → Given r → NextPromise words table before (refused r) before
+  allowed : (r : Refusal) → Given words table before r → NextPromise words table before (refused r) before
   allowed (broken-layout p) e = row-4 e
   allowed (no-tree A) (g, e, low) = row-5 e low
   allowed (unreached A) (g, e, (t, low)) = row-6 e t low
@@ -99,14 +55,14 @@ module _ (words table : List ℕ) (before : Lent) where
   allowed (no-derivation p) z = absurd z
   allowed long-list z = absurd z
 
-  only-finished : {after : Lent} → NextPromise words table before Finished after → GivenFinished × (after ≡ before)
+  only-finished : {after : Lent} → NextPromise words table before Finished after → GivenFinished words table before × (after ≡ before)
   only-finished (finished {g = g} e a h l u) = ((g, e, ((a, h), l, u)), refl)
 
-  allowed-finished : GivenFinished → NextPromise words table before Finished before
+  allowed-finished : GivenFinished words table before → NextPromise words table before Finished before
   allowed-finished (g, e, ((a, h), l, u)) = finished e a h l u
 
   only-next : {after : Lent} {r n m : ℕ} → NextPromise words table before (Next r n m) after →
-      GivenNext r n m × Are words (Handed after r n m)
+      GivenNext words table before r n m × Are words (Handed words table before after r n m)
   only-next (next {g = g} {r = r} {t = t} w l m k) = (
     record { g = g; r = r; t = t; wanted = w; holds = (refl, refl, refl, l, m) },
     (
@@ -122,7 +78,7 @@ module _ (words table : List ℕ) (before : Lent) where
     ),
   )
 
-  allowed-next : {r n m : ℕ} → GivenNext r n m → (after : Lent) × NextPromise words table before (Next r n m) after
+  allowed-next : {r n m : ℕ} → GivenNext words table before r n m → (after : Lent) × NextPromise words table before (Next r n m) after
   allowed-next z =
       let (target, n-is, m-is, l, m) = z .holds in
       let (marks, marked) = marks-exist (derivation (z .t)) (before .marks) in

@@ -12,7 +12,7 @@ use Rattle.grammar.specs.Tree.{sentence, derivation}
 use Rattle.grammar.specs.Refusals.{Lowest, Accepted}
 use Rattle.tables.specs.Table.{HasTable}
 use Rattle.handout.specs.Next.{NextPromise, Unused, AllUsed, Lent, finished, next}
-use Rattle.handout.specs.Night.{Handout, Night, clear, later, Over}
+use Rattle.handout.specs.Night.{Handout, Night, clear, later, Over, Enough, GoesOn}
 use Rattle.handout.specs.declared.NextAnswer.{NextAnswer}
 use Rattle.handout.specs.declared.NextAnswer.the-variants.{Next, Finished}
 use Rattle.handout.proofs.MarksSettled.{marks-exist, unused?}
@@ -21,16 +21,6 @@ use Rattle.handout.proofs.NextMet.{wanted-exists, next-met}
 use Rattle.handout.proofs.NextExact.{next-writes}
 use Rattle.handout.proofs.NightProper.{tree-of-limit}
 use Rattle.handout.proofs.NightCovers.{at-most-R}
-
--- room for the marks of all rules and for any sentence and derivation within the limit
-pub record Enough (g : Grammar) (lent : Lent) : Type 0 where
-  pub marks : R g ≤ length (lent .marks)
-  pub tokens : 4096 ≤ length (lent .tokens)
-  pub rules : 4096 ≤ length (lent .rules)
-
--- the answer is no refusal
-abbrev pub GoesOn : NextAnswer → Type 0
-GoesOn a = (a ≡ Finished) ⊎ ((r : ℕ) × (n : ℕ) × (m : ℕ) × (a ≡ Next r n m))
 
 zeros : (n i : ℕ) → _≡_ {A = ℕ} (getD (replicate n 0) i 0) 0
 zeros zero i = refl
@@ -109,6 +99,6 @@ module _ (words table : List ℕ) {g : Grammar} (e : layout words ≡ reads g) (
     night-ends =
         run (suc (R g)) [] (omega arith) (record {
           marks = replicate (R g) 0;
-          night = clear (zeros (R g));
+          night = clear e (λ r _. zeros (R g) r);
           enough = omega (arith, length-replicate {A = ℕ} (R g) 0);
         })

@@ -19,11 +19,12 @@ use Rattle.grammar.proofs.SizeIsLength.{size-is-length}
 use Rattle.grammar.proofs.Unique.{total-unique}
 use Rattle.grammar.proofs.Totals.{total-smallest, tree-of-total, tree-of-uses}
 use Rattle.grammar.proofs.LayoutExact.{reads-unique}
-use Rattle.handout.specs.Next.{NextPromise, Lent}
+use Rattle.handout.specs.Next.{NextPromise, AllUnused, Lent}
+use Rattle.handout.specs.Given.{Handed}
 use Rattle.handout.specs.Night.{Handout, handout, Night, clear, later, UsedIn, Proper, AllProper, none-yet, and-then}
 use Rattle.handout.specs.declared.NextAnswer.the-variants.{Next}
 use Rattle.handout.proofs.MarksSettled.{ToSet, mark-cases}
-use Rattle.handout.proofs.NextExact.{Handed, next-writes}
+use Rattle.handout.proofs.NextExact.{next-writes}
 
 -- the tree of a rule of an accepted grammar keeps within the limit
 pub tree-of-limit : {g : Grammar} {r : ℕ} {t : Tree g (g .start)} → Accepted g → r < R g → TreeOf plain g r t →
@@ -81,7 +82,9 @@ handed {words} {table} {before} {after} {r} {n} {m} e p =
 
 pub night-tells : {words table marks : List ℕ} {hs : List Handout} {g : Grammar} → layout words ≡ reads g →
     Night words table hs marks → AllProper g hs × Tells g hs marks
-night-tells e (clear z) = (none-yet, λ i l. (λ u. absurd u, λ n. absurd (n (z i))))
+night-tells {words} {g = g} e (clear {marks = marks} read z) =
+    let unused : AllUnused g marks = subst (λ (h : Grammar). AllUnused h marks) (reads-unique words read e) z in
+    (none-yet, λ i l. (λ u. absurd u, λ n. absurd (n (unused i l))))
 night-tells e (later {handed = hs} night p) =
     let h = handed e p in
     let (proper, tells) = night-tells e night in

@@ -1,5 +1,6 @@
 pub mod Replay
 pub mod Next
+pub mod Given
 pub mod Night
 pub mod Listing
 pub mod MarkSteps

@@ -29,13 +29,16 @@ pub record Lent : Type 0 where
   pub tokens : List ℕ
   pub rules : List ℕ
 
--- a rule whose mark is 0; and that there is none
+-- a rule whose mark is 0; that there is none; and that each is such a one: clear marks. Marks past those of the rules are not looked at.
 pub record Unused (g : Grammar) (marks : List ℕ) (r : ℕ) : Type 0 where
   pub rule : r < R g
   pub zero : getD marks r 0 ≡ 0
 
 abbrev pub AllUsed : Grammar → List ℕ → Type 0
 AllUsed g marks = (r : ℕ) → r < R g → ¬ (getD marks r 0 ≡ 0)
+
+abbrev pub AllUnused : Grammar → List ℕ → Type 0
+AllUnused g marks = (r : ℕ) → r < R g → getD marks r 0 ≡ 0
 
 -- "sets to 1 the zero marks of exactly the rules in the derivation"
 pub record Marked (ks before after : List ℕ) : Type 0 where

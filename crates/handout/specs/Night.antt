@@ -5,12 +5,13 @@ use Prim.Native.Nat.{ℕ, _+_, _≤_, _<_}
 use mathlib.Core.Path.{_≡_}
 use mathlib.Core.List.{List, [], _∷_}
 use mathlib.Core.Logic.{_⊎_}
-use lib.ListN.{length, getD, take}
-use Rattle.grammar.specs.Words.{Grammar, R}
+use lib.ListN.{length, take}
+use Rattle.grammar.specs.Words.{Grammar, R, layout, reads}
 use Rattle.grammar.specs.Derivation.{Derives}
 use Rattle.grammar.specs.Tree.{Tree, Uses, _∈_}
 use Rattle.grammar.specs.Measure.{plain, treeCost}
-use Rattle.handout.specs.Next.{Lent, NextPromise}
+use Rattle.handout.specs.Next.{Lent, AllUnused, NextPromise}
+use Rattle.handout.specs.declared.NextAnswer.{NextAnswer}
 use Rattle.handout.specs.declared.NextAnswer.the-variants.{Next, Finished}
 
 -- what one call hands out: the target, and what then stands at the front of the two buffers
@@ -19,7 +20,7 @@ pub data Handout : Type 0 where
 
 -- the handouts of a night so far, the last one first, and the marks after them
 pub data Night (words table : List ℕ) : List Handout → List ℕ → Type 0 where
-  clear : {marks : List ℕ} → ((i : ℕ) → getD marks i 0 ≡ 0) → Night words table [] marks
+  clear : {g : Grammar} {marks : List ℕ} → layout words ≡ reads g → AllUnused g marks → Night words table [] marks
   later : {before after : Lent} {target n m : ℕ} {handed : List Handout} →
       Night words table handed (before .marks) → NextPromise words table before (Next target n m) after →
       Night words table (handout target (take n (after .tokens)) (take m (after .rules)) ∷ handed) (after .marks)
@@ -30,6 +31,16 @@ pub record Over (words table : List ℕ) (handed : List Handout) : Type 0 where
   pub after : Lent
   pub night : Night words table handed (before .marks)
   pub ends : NextPromise words table before Finished after
+
+-- room for the marks of all rules and for any sentence and derivation within the limit
+pub record Enough (g : Grammar) (lent : Lent) : Type 0 where
+  pub marks : R g ≤ length (lent .marks)
+  pub tokens : 4096 ≤ length (lent .tokens)
+  pub rules : 4096 ≤ length (lent .rules)
+
+-- the answer is no refusal
+abbrev pub GoesOn : NextAnswer → Type 0
+GoesOn a = (a ≡ Finished) ⊎ ((r : ℕ) × (n : ℕ) × (m : ℕ) × (a ≡ Next r n m))
 
 -- the target r with the sentence t and the derivation ks is one of the handouts
 pub data HandedOut : List Handout → ℕ → List ℕ → List ℕ → Type 0 where
