@@ -1,31 +1,26 @@
--- What each step of the lister needs and leaves: tokens passed, a nonterminal opened by its chosen rule, a step back, the end. What
--- is written so far, and a listing of what is open, together list what was open at first. Assumes nothing.
-use Prim.Native.Nat.{ℕ, suc, _+_, _*_, _-_, _≤_, _<_}
+-- What each step of the lister needs and leaves: where a rule stands, a token, a rule's number, one more of some symbols, a
+-- nonterminal by its chosen rule. Assumes nothing.
+use Prim.Native.Nat.{ℕ, _+_, _*_, _≤_, _<_}
 use native.Mathlib.Nat.{add-zero}
+use native.Mathlib.Numerals.{add-one}
 use native.Mathlib.Omega.{arith}
-use mathlib.Core.List.{List, [], _∷_, _++_, append-assoc, append-nil}
-use mathlib.Core.Path.{_≡_, refl, ap, sym, _∙_, subst}
-use lib.ListN.{length, getD, set, length-take}
-use lib.Seq.{sets, length-sets}
-use Rattle.grammar.specs.Words.{Grammar, R, RuleAt}
-use Rattle.grammar.specs.Walk.{countAt}
-use Rattle.grammar.specs.Tree.{nil}
+use mathlib.Core.List.{List, [], _∷_, _++_}
+use mathlib.Core.Path.{_≡_, refl, ap, sym, _∙_}
+use lib.ListN.{length, getD, set, take, length-take}
+use lib.Seq.{length-sets, take-suc, take-all}
+use Rattle.grammar.specs.Words.{Grammar, R}
+use Rattle.grammar.specs.Tree.{node, nil}
 use Rattle.grammar.proofs.LayoutExact.{in-bounds}
 use Rattle.grammar.proofs.RulePlaces as places
-use Rattle.grammar.proofs.RulePlaces.{placeOf}
 use Rattle.grammar.proofs.RuleNumbers.{rule-number}
-use Rattle.grammar.proofs.RulesInView.{viewed-rule, viewed-right}
+use Rattle.grammar.proofs.RulesInView.{viewed-rule}
 use Rattle.grammar.proofs.WordsFew.{words-few}
 use Rattle.tables.specs.Table.{entry, tableLength}
-use Rattle.handout.specs.Forms.{side, waiting, formOf, waitingAbove, behind, Passing, Passed, Openable, Opened}
-use Rattle.handout.specs.declared.forms.Open.{Open}
 use Rattle.handout.specs.declared.lister.Lengths.{Lengths}
-use Rattle.handout.specs.declared.lister.Move.{Move}
-use Rattle.handout.specs.declared.lister.Move.the-variants.{On, End}
-use Rattle.handout.specs.Listing.{Known, sizeBy, sizesBy, rightOf, Room, SpanReady, Kept, TurnReady, SymbolsListed, toDo}
-use Rattle.handout.specs.Listing.{Went, Leads, Turned, Wrote, Listed, SymbolsWritten, soFar}
-use Rattle.handout.proofs.FormSteps.{side-is, form-first, form-above, form-empty, form-passed}
-use Rattle.handout.proofs.Listings.{and-then, nothing, tokens-listed, opened-listed, sizes-append, tokens-size, ChosenRule}
+use Rattle.handout.specs.Listing.{Known, sizeBy, sizesBy, rightOf, SymbolReady, RuleReady, SymbolsReady, of-terminal}
+use Rattle.handout.specs.Listing.{of-nonterminal, SymbolsListed, RuleListed, Wrote, Listed, Written, SymbolWritten, RuleWritten}
+use Rattle.handout.specs.Listing.{SymbolsWritten}
+use Rattle.handout.proofs.Listings.{and-then, nothing, one-more, sizes-more, sizes-within, terminal-size, ChosenRule}
 use Rattle.handout.proofs.Listings.{chosen-rule, number-low}
 
 -- the parts keep their lengths
@@ -35,9 +30,6 @@ module _ {P : List ℕ → List ℕ → Type 0} {a b x y : List ℕ} {p q : Leng
 
   pub rules-kept : length y ≡ length x
   rules-kept = ap length (h .wrote .derivation) ∙ length-sets x (p .rules) (h .vs)
-
-pub room-kept : {most : ℕ} {a b a′ b′ : List ℕ} → Room most a b → length a′ ≡ length a → length b′ ≡ length b → Room most a′ b′
-room-kept room e f = record { few = room .few; same = omega (arith, room .same) }
 
 -- where a rule stands, and where the table's words for a nonterminal do
 module _ {words starts table : List ℕ} {n : ℕ} {g : Grammar} (known : Known words starts table n g) where
@@ -50,27 +42,10 @@ module _ {words starts table : List ℕ} {n : ℕ} {g : Grammar} (known : Known 
         at ≡ getD starts k 0
     index-is e r = r .0 (omega (arith, e, number-low known h)) ∙ ap (λ (m : ℕ). getD starts m 0) e
 
-    pub right-count : countAt words (getD starts k 0) ≡ length (rightOf words starts k)
-    right-count =
+    pub stands-within : getD starts k 0 < length words
+    stands-within =
         let (A, w, r) = viewed-rule (known .view) k h in
-        ap (λ (p : ℕ). countAt words p) (known .view .begin k h)
-        ∙ places.count-stands words g (known .view .is) k A w (r .stands)
-        ∙ ap length (sym (viewed-right (known .view) r))
-
-    pub whole-rule : getD starts k 0 + 2 + countAt words (getD starts k 0) ≤ length words
-    whole-rule =
-        let (A, w, r) = viewed-rule (known .view) k h in
-        let within = places.rule-within words g (known .view .is) k A w (r .stands) in
-        omega (arith, known .view .begin k h, right-count, ap length (viewed-right (known .view) r), within)
-
-    pub right-side : side words (getD starts k 0 + 2) (countAt words (getD starts k 0)) ≡ rightOf words starts k
-    right-side =
-        let (A, w, r) = viewed-rule (known .view) k h in
-        let right = viewed-right (known .view) r in
-        ap (λ (m : ℕ). side words (getD starts k 0 + 2) m) (right-count ∙ ap length right)
-        ∙ ap (λ (p : ℕ). side words (p + 2) (length w)) (known .view .begin k h)
-        ∙ side-is words w (placeOf g k + 2) (places.symbol-stands words g (known .view .is) k A w (r .stands))
-        ∙ sym right
+        omega (arith, known .view .begin k h, places.rule-within words g (known .view .is) k A w (r .stands))
 
   pub nonterminal-low : (A : ℕ) → A < n → A < 128
   nonterminal-low A h = omega (arith, known .view .nonterminals, in-bounds words (known .view .is) .nonterminals)
@@ -79,236 +54,150 @@ module _ {words starts table : List ℕ} {n : ℕ} {g : Grammar} (known : Known 
   table-long A j h k =
       omega (arith, known .tabled .long, length-take (tableLength g) table, known .view .nonterminals)
 
--- a nonterminal is opened by its chosen rule
-module _ {words starts table : List ℕ} {n : ℕ} {g : Grammar} (known : Known words starts table n g) (o : Open)
-    (some : 0 < o .left) (low : getD words (o .at) 0 < n) where
-  abbrev first : ℕ
-  first = getD words (o .at) 0
+-- what a loop over the symbols w keeps: the first i of them are listed
+pub record Turn (words starts table : List ℕ) (n : ℕ) (w tokens tokens′ rules rules′ : List ℕ) (past so : Lengths) (i : ℕ) :
+    Type 0 where
+  pub upto : i ≤ length w
+  pub done : Written words starts table n (λ g. SymbolsListed g (take i w)) (sizesBy n table (take i w))
+      tokens tokens′ rules rules′ past so
 
-  abbrev k : ℕ
-  k = entry table first 1
+abbrev pub oneRule : Lengths → Lengths
+oneRule p = record { tokens = p .tokens; rules = p .rules + 1 }
 
-  rule : ChosenRule known first k
-  rule = chosen-rule known first k low refl
+abbrev pub oneToken : Lengths → Lengths
+oneToken p = record { tokens = p .tokens + 1; rules = p .rules }
 
-  pub chosen-number : k < R g
-  chosen-number = rule-number (rule .rule)
-
-  form-size : (ats lefts : List ℕ) →
-      sizesBy n table (formOf words ats lefts o) ≡ sizeBy n table first + sizesBy n table (formOf words ats lefts (behind o))
+module _ (words starts table : List ℕ) (n : ℕ) where
+  pub turns-begin : (w a x : List ℕ) (p : Lengths) → Turn words starts table n w a a x x p p 0
   unfolding sizesBy
-  form-size ats lefts = ap (sizesBy n table) (form-first words ats lefts o some)
+  turns-begin w a x p = record {
+    upto = omega arith;
+    done = record {
+      counted = omega arith;
+      listed = λ g k. record {
+        us = [];
+        vs = [];
+        lists = record { forest = nil; chosen = tt; tokens = refl; rules = refl };
+        wrote = nothing a x p;
+      };
+    };
+  }
 
-  module _ {ats lefts : List ℕ} where
-    pub chosen-openable : {most : ℕ} → Room most ats lefts → Kept words table n ats lefts o most →
-        Openable words (getD starts k 0) ats lefts o
-    chosen-openable room kept =
-        let within = kept .within in
-        let fits = kept .fits in
-        let size = rule .size in
-        let first-size = form-size ats lefts in
-        record {
-          some = some;
-          few-words = omega (arith, few-words known);
-          few-rules = omega (arith, room .few);
-          room-ats = omega arith;
-          room-lefts = omega (arith, room .same);
-          inside = kept .inside;
-          all-inside = kept .all-inside;
-          whole = whole-rule known chosen-number;
-        }
-
-    pub chosen-went : {ats′ lefts′ rules rules′ : List ℕ} {o′ : Open} → rules′ ≡ set rules (o .next) k →
-        Opened words (getD starts k 0) ats lefts o ats′ lefts′ o′ →
-        Went g words table n ats lefts o rules ats′ lefts′ o′ rules′
-    chosen-went {ats′} {lefts′} {o′ = o′} e opened = record {
-      ks = k ∷ [];
-      stored = e;
-      more-rules = opened .one-more;
-      same-tokens = opened .same-tokens;
-      inside = opened .inside;
-      all-inside = opened .all-inside;
-      deeper = opened .deeper;
-      size = size;
-      less = omega (arith, size, opened .deeper);
-      listed = λ us vs l.
-          let m : SymbolsListed g (rightOf words starts k ++ formOf words ats lefts (behind o)) us vs = rw form at l in
-          rw (form-first words ats lefts o some) (opened-listed (rule .rule) (rule .chosen) m);
-    }
-      where
-        form : formOf words ats′ lefts′ o′ ≡ rightOf words starts k ++ formOf words ats lefts (behind o)
-        form =
-            opened .form
-            ∙ ap (λ (w : List ℕ). w ++ formOf words ats lefts (behind o)) (right-side known chosen-number)
-
-        size : sizesBy n table (formOf words ats lefts o) ≡ 1 + sizesBy n table (formOf words ats′ lefts′ o′)
-        size =
-            let parts = sizes-append n table (rightOf words starts k) (formOf words ats lefts (behind o)) in
-            omega (arith, form-size ats lefts, rule .size, ap (sizesBy n table) form, parts)
-
--- a step back
-pub back-went : {g : Grammar} {words table ats lefts rules : List ℕ} {n : ℕ} {o o′ : Open} →
-    ((i : ℕ) → i < o .depth → getD ats i 0 + getD lefts i 0 ≤ length words) → o .left ≡ 0 → 0 < o .depth →
-    o′ ≡ waitingAbove ats lefts o → Went g words table n ats lefts o rules ats lefts o′ rules
-back-went {g} {words} {table} {ats} {lefts} {rules} {n} {o} {o′} inside none some e = rw e (record {
-  ks = [];
-  stored = refl;
-  more-rules = omega arith;
-  same-tokens = refl;
-  inside = inside (o .depth - 1) (omega arith);
-  all-inside = λ i l. inside i (omega arith);
-  deeper = omega arith;
-  size = omega (arith, ap (sizesBy n table) same);
-  less = omega (arith, ap (sizesBy n table) same);
-  listed = λ us vs l. rw same l;
-})
-  where
-    same : formOf words ats lefts o ≡ formOf words ats lefts (waitingAbove ats lefts o)
-    same = form-above words ats lefts o none some
-
--- tokens that are passed are written
-pub passed-wrote : {words tokens tokens′ : List ℕ} {n : ℕ} {o o′ : Open} (rules : List ℕ)
-    (p : Passed words n o tokens o′ tokens′) → Wrote (p .ts) [] tokens tokens′ rules rules (soFar o) (soFar o′)
-passed-wrote {o = o} rules p = record {
-  more-tokens = p .more-tokens;
-  more-rules = p .same-next ∙ sym (add-zero (o .next));
-  sentence = p .stored;
-  derivation = refl;
-}
-
--- what the loop keeps
-pub record Held (g : Grammar) (words table : List ℕ) (n : ℕ) (from : Open) (tokens₀ rules₀ ats lefts : List ℕ) (o : Open)
-    (tokens rules : List ℕ) : Type 0 where
-  pub inside : o .at + o .left ≤ length words
-  pub all-inside : (i : ℕ) → i < o .depth → getD ats i 0 + getD lefts i 0 ≤ length words
-  pub waits : o .depth + sizesBy n table (formOf words ats lefts o) ≤ sizesBy n table (side words (from .at) (from .left))
-  pub counted : o .tokens + o .next + sizesBy n table (formOf words ats lefts o) ≡
-      from .tokens + from .next + sizesBy n table (side words (from .at) (from .left))
-  pub us : List ℕ
-  pub vs : List ℕ
-  pub wrote : Wrote us vs tokens₀ tokens rules₀ rules (soFar from) (soFar o)
-  pub lists : (us′ vs′ : List ℕ) → SymbolsListed g (formOf words ats lefts o) us′ vs′ →
-      SymbolsListed g (side words (from .at) (from .left)) (us ++ us′) (vs ++ vs′)
-
-form-flat : (words ats lefts : List ℕ) (o : Open) → o .depth ≡ 0 → formOf words ats lefts o ≡ side words (o .at) (o .left)
-unfolding waiting
-form-flat words ats lefts o e = rw e (append-nil (side words (o .at) (o .left)))
-
-pub held-first : {g : Grammar} {words starts table : List ℕ} {n : ℕ} {ats lefts tokens rules : List ℕ} {from : Open} →
-    SpanReady words starts table n ats lefts from → Held g words table n from tokens rules ats lefts from tokens rules
-held-first {words = words} {table = table} {n = n} {ats = ats} {lefts = lefts} {from = from} ready =
-    let flat = form-flat words ats lefts from (ready .flat) in
-    record {
-      inside = ready .inside;
-      all-inside = λ i l. absurd (omega (arith, ready .flat));
-      waits = omega (arith, ready .flat, ap (sizesBy n table) flat);
-      counted = ap (λ (w : List ℕ). from .tokens + from .next + sizesBy n table w) flat;
-      us = [];
+  pub token-listed : (s : ℕ) (a b x : List ℕ) (p : Lengths) → n ≤ s → b ≡ set a (p .tokens) s →
+      SymbolWritten words starts table n s a b x x p (oneToken p)
+  token-listed s a b x p h e = record {
+    counted = omega (arith, terminal-size n table s h);
+    listed = λ g k. record {
+      us = s ∷ [];
       vs = [];
-      wrote = nothing _ _ _;
-      lists = λ us′ vs′ l. rw flat at l;
+      lists = let le : g .N ≤ s = omega (arith, k .view .nonterminals) in of-terminal le;
+      wrote = record { more-tokens = refl; more-rules = sym (add-zero (p .rules)); sentence = e; derivation = refl };
+    };
+  }
+
+  -- the next symbol of a rule is smaller than the rule
+  pub symbol-smaller : (k i : ℕ) (w : List ℕ) → w ≡ rightOf words starts k → i < length w →
+      2 * sizeBy n table (getD w i 0) < 2 * sizesBy n table (rightOf words starts k) + 1
+  symbol-smaller k i w is h = omega (arith, ap (sizesBy n table) is, sizes-within n table w i h)
+
+module _ {words starts table : List ℕ} {n : ℕ} where
+  -- one more symbol
+  module _ {w a b c x y z : List ℕ} {p q r : Lengths} {i : ℕ} where
+    pub turn-goes-on : Turn words starts table n w a b x y p q i → i < length w →
+        SymbolWritten words starts table n (getD w i 0) b c y z q r → Turn words starts table n w a c x z p r (i + 1)
+    turn-goes-on turn h one = record {
+      upto = omega arith;
+      done = record {
+        counted = omega (arith, turn .done .counted, one .counted, sizes-more n table w i h);
+        listed = λ g k.
+            let so = turn .done .listed g k in
+            let last = one .listed g k in
+            let both = one-more (so .lists .forest) (so .lists .chosen) (last .lists) in
+            record {
+              us = so .us ++ last .us;
+              vs = so .vs ++ last .vs;
+              lists = rw (add-one i, take-suc w i 0 h, so .lists .tokens, so .lists .rules) both;
+              wrote = and-then (so .wrote) (last .wrote);
+            };
+      };
     }
 
-module _ {words table : List ℕ} {n : ℕ} {g : Grammar} {from : Open} {tokens₀ rules₀ ats lefts : List ℕ} {o : Open}
-    {tokens rules : List ℕ} (held : Held g words table n from tokens₀ rules₀ ats lefts o tokens rules) where
-  pub held-kept : {most : ℕ} → from .tokens + from .next + sizesBy n table (side words (from .at) (from .left)) ≤ most →
-      sizesBy n table (side words (from .at) (from .left)) ≤ length ats → Kept words table n ats lefts o most
-  held-kept h k = record {
-    inside = held .inside;
-    all-inside = held .all-inside;
-    fits = omega (arith, held .waits);
-    within = omega (arith, held .counted);
+  -- the next symbol of a rule can be listed, and the next of some symbols
+  pub symbol-ready : {w a b x y : List ℕ} {p q : Lengths} {k i : ℕ} → w ≡ rightOf words starts k →
+      RuleReady words starts table n k p → Turn words starts table n w a b x y (oneRule p) q i → i < length w →
+      SymbolReady words starts table n (getD w i 0) q
+  symbol-ready {w} {i = i} is ready turn h = record {
+    g = ready .g;
+    known = ready .known;
+    few = omega (arith, ready .few, ap (sizesBy n table) is, turn .done .counted, sizes-within n table w i h);
   }
 
-  pub held-passing : {starts : List ℕ} {most : ℕ} → Known words starts table n g →
-      from .tokens + from .next + sizesBy n table (side words (from .at) (from .left)) ≤ most → most ≤ 4096 → Passing words o
-  held-passing known h k = record {
-    inside = held .inside;
-    few = omega (arith, held .counted, held .inside, few-words known);
+  pub symbol-of-ready : {w a b x y : List ℕ} {p q : Lengths} {i : ℕ} → SymbolsReady words starts table n w p →
+      Turn words starts table n w a b x y p q i → i < length w → SymbolReady words starts table n (getD w i 0) q
+  symbol-of-ready {w} {i = i} ready turn h = record {
+    g = ready .g;
+    known = ready .known;
+    few = omega (arith, ready .few, turn .done .counted, sizes-within n table w i h);
   }
 
-  -- the parts keep their lengths
-  pub held-tokens : length tokens ≡ length tokens₀
-  held-tokens = ap length (held .wrote .sentence) ∙ length-sets tokens₀ (from .tokens) (held .us)
+  -- after the last symbol
+  pub symbols-listed : {w a b x y : List ℕ} {p q : Lengths} {i : ℕ} → Turn words starts table n w a b x y p q i → length w ≤ i →
+      SymbolsWritten words starts table n w a b x y p q
+  symbols-listed {w} {i = i} turn h = rw (take-all i w h) at (turn .done)
 
-  pub held-rules : length rules ≡ length rules₀
-  held-rules = ap length (held .wrote .derivation) ∙ length-sets rules₀ (from .next) (held .vs)
+  -- a rule's number before some symbols
+  pub numbered : {k : ℕ} {w a b x x₁ y : List ℕ} {p q : Lengths} → x₁ ≡ set x (p .rules) k →
+      SymbolsWritten words starts table n w a b x₁ y (oneRule p) q →
+      Written words starts table n (λ g. RuleListed g k w) (1 + sizesBy n table w) a b x y p q
+  numbered {k} {w} {a} {b} {x} {x₁} {y} {p} {q} e h = record {
+    counted = omega (arith, h .counted);
+    listed = λ g known.
+        let so = h .listed g known in
+        record {
+          us = so .us;
+          vs = k ∷ so .vs;
+          lists = record { after = so .vs; symbols = so .lists; is = refl };
+          wrote = and-then {us = []} {vs = k ∷ []} number (so .wrote);
+        };
+  }
+    where
+      number : Wrote [] (k ∷ []) a a x x₁ p (oneRule p)
+      number = record { more-tokens = sym (add-zero (p .tokens)); more-rules = refl; sentence = refl; derivation = e }
 
-  -- tokens are passed
-  pub held-passed : {starts : List ℕ} {o′ : Open} {tokens′ : List ℕ} → Known words starts table n g →
-      Passed words n o tokens o′ tokens′ → Held g words table n from tokens₀ rules₀ ats lefts o′ tokens′ rules
-  held-passed {o′ = o′} known p =
-      let ts = p .ts in
-      let form = form-passed words ats lefts o p in
-      let size = tokens-size n table ts (formOf words ats lefts o′) (p .all-tokens) in
-      record {
-        inside = omega (arith, held .inside, p .same-end);
-        all-inside = λ i l. held .all-inside i (omega (arith, p .same-depth));
-        waits = omega (arith, held .waits, p .same-depth, ap (sizesBy n table) form, size);
-        counted = omega (arith, held .counted, p .more-tokens, p .same-next, ap (sizesBy n table) form, size);
-        us = held .us ++ ts;
-        vs = held .vs ++ [];
-        wrote = and-then (held .wrote) (passed-wrote rules p);
-        lists = λ us′ vs′ l.
-            let low : (i : ℕ) → i < length ts → g .N ≤ getD ts i 0 = λ i h. omega (arith, p .all-tokens i h, known .view .nonterminals) in
-            let m : SymbolsListed g (formOf words ats lefts o) (ts ++ us′) vs′ = rw form (tokens-listed ts low l) in
-            rw (append-assoc (held .us) ts us′, append-nil (held .vs)) (held .lists (ts ++ us′) vs′ m);
-      }
+  pub rule-listed : {k : ℕ} {w a b x x₁ y : List ℕ} {p q : Lengths} {i : ℕ} → w ≡ rightOf words starts k →
+      x₁ ≡ set x (p .rules) k → Turn words starts table n w a b x₁ y (oneRule p) q i → length w ≤ i →
+      RuleWritten words starts table n k a b x y p q
+  rule-listed is e turn h = numbered e (rw is at (symbols-listed turn h))
 
-  -- a turn goes on
-  pub held-went : {ats′ lefts′ : List ℕ} {o′ : Open} {rules′ : List ℕ} → Went g words table n ats lefts o rules ats′ lefts′ o′ rules′ →
-      Held g words table n from tokens₀ rules₀ ats′ lefts′ o′ tokens rules′
-  held-went {o′ = o′} {rules′ = rules′} w =
-      let ks = w .ks in
-      let numbers : Wrote [] ks tokens tokens rules rules′ (soFar o) (soFar o′) = record {
-        more-tokens = w .same-tokens ∙ sym (add-zero (o .tokens));
-        more-rules = w .more-rules;
-        sentence = refl;
-        derivation = w .stored;
-      } in
-      record {
-        inside = w .inside;
-        all-inside = w .all-inside;
-        waits = omega (arith, held .waits, w .deeper, w .size);
-        counted = omega (arith, held .counted, w .size, w .more-rules, w .same-tokens);
-        us = held .us ++ [];
-        vs = held .vs ++ ks;
-        wrote = and-then (held .wrote) numbers;
-        lists = λ us′ vs′ l.
-            let m = w .listed us′ vs′ l in
-            rw (append-assoc (held .vs) ks vs′, append-nil (held .us)) (held .lists us′ (ks ++ vs′) m);
-      }
+  -- a nonterminal by its chosen rule
+  module _ {s k : ℕ} {p : Lengths} (ready : SymbolReady words starts table n s p) (h : s < n) (e : k ≡ entry table s 1) where
+    chosen : ChosenRule (ready .known) s k
+    chosen = chosen-rule (ready .known) s k h e
 
-  -- nothing is open
-  pub held-end : formOf words ats lefts o ≡ [] →
-      Listed (SymbolsListed g (side words (from .at) (from .left))) tokens₀ tokens rules₀ rules (soFar from) (soFar o)
-  held-end e =
-      let none : SymbolsListed g [] [] [] = record { forest = nil; chosen = tt; tokens = refl; rules = refl } in
-      record {
-        us = held .us;
-        vs = held .vs;
-        lists = rw (append-nil (held .us), append-nil (held .vs)) at (held .lists [] [] (rw e none));
-        wrote = held .wrote;
-      }
+    pub rule-ready : RuleReady words starts table n k p
+    rule-ready = record {
+      g = ready .g;
+      known = ready .known;
+      number = rule-number (chosen .rule);
+      few = omega (arith, ready .few, chosen .size);
+    }
 
-  pub end-counted : formOf words ats lefts o ≡ [] →
-      o .tokens + o .next ≡ from .tokens + from .next + sizesBy n table (side words (from .at) (from .left))
-  unfolding sizesBy
-  end-counted e = omega (arith, held .counted, ap (sizesBy n table) e)
+    pub rule-smaller : 2 * sizesBy n table (rightOf words starts k) + 1 < 2 * sizeBy n table s
+    rule-smaller = omega (arith, chosen .size)
 
--- what is to be done does not grow where tokens are passed
-pub passed-less : {words sentence sentence′ : List ℕ} {n : ℕ} {o o′ : Open} (table ats lefts : List ℕ) →
-    Passed words n o sentence o′ sentence′ → toDo words table n ats lefts o′ ≤ toDo words table n ats lefts o
-passed-less {words} {n = n} {o = o} {o′ = o′} table ats lefts p =
-    let form = ap (sizesBy n table) (form-passed words ats lefts o p) in
-    let size = tokens-size n table (p .ts) (formOf words ats lefts o′) (p .all-tokens) in
-    omega (arith, form, size, p .same-depth)
-
--- a turn, by what it leads to
-module _ {g : Grammar} {words table ats lefts rules ats′ lefts′ rules′ : List ℕ} {n : ℕ} {o : Open} {m : Move}
-    (turned : Turned g words table n ats lefts o rules ats′ lefts′ m rules′) where
-  pub turned-on : {o′ : Open} → m ≡ On o′ → Went g words table n ats lefts o rules ats′ lefts′ o′ rules′
-  turned-on e = subst (λ (x : Move). Leads g words table n ats lefts o rules ats′ lefts′ x rules′) e (turned .leads)
-
-  pub turned-end : m ≡ End → (formOf words ats lefts o ≡ []) × (rules′ ≡ rules)
-  turned-end e = subst (λ (x : Move). Leads g words table n ats lefts o rules ats′ lefts′ x rules′) e (turned .leads)
+    pub chosen-listed : {a b x y : List ℕ} {q : Lengths} → RuleWritten words starts table n k a b x y p q →
+        SymbolWritten words starts table n s a b x y p q
+    chosen-listed rule = record {
+      counted = omega (arith, rule .counted, chosen .size);
+      listed = λ g known.
+          let so = rule .listed g known in
+          let c = chosen-rule known s k h e in
+          let f = so .lists .symbols in
+          let tree = of-nonterminal (node k (c .rule) (f .forest)) (c .chosen, f .chosen) in
+          record {
+            us = so .us;
+            vs = so .vs;
+            lists = rw (so .lists .is, f .rules, f .tokens) tree;
+            wrote = so .wrote;
+          };
+    }

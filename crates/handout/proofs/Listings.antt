@@ -6,11 +6,12 @@ use native.Mathlib.Numerals.{add-one}
 use native.Mathlib.Omega.{arith}
 use mathlib.Core.List.{List, [], _∷_, _++_, append-assoc, append-nil}
 use mathlib.Core.Path.{_≡_, refl, ap, sym, _∙_}
-use lib.ListN.{length, getD, length-append}
+use lib.ListN.{length, getD, set, take, drop, length-append, take-append-drop}
+use lib.Seq.{sets, take-suc}
 use borrow.Author.Tests.{lt-ltb, le-ltb}
 use Rattle.answers.proofs.Stores.{sets-append}
 use Rattle.grammar.specs.Words.{Grammar, R, RuleAt}
-use Rattle.grammar.specs.Tree.{Forest, node, nil, leaf, child, sentence, sentences, derivation, derivations}
+use Rattle.grammar.specs.Tree.{Forest, nil, leaf, child, sentence, sentences, derivation, derivations}
 use Rattle.grammar.specs.Measure.{plain}
 use Rattle.grammar.specs.Least.{Least, RuleSize, Chosen, ChosenForest}
 use Rattle.grammar.specs.Refusals.{AllFit}
@@ -22,7 +23,8 @@ use Rattle.tables.specs.Table.{entry}
 use Rattle.tables.proofs.TablePlaces.{entry-front}
 use Rattle.grammar.proofs.RulesInView.{viewed-right}
 use Rattle.handout.specs.declared.lister.Lengths.{Lengths}
-use Rattle.handout.specs.Listing.{Known, sizeBy, sizesBy, rightOf, SymbolsListed, Wrote}
+use Rattle.handout.specs.Listing.{Known, sizeBy, sizesBy, rightOf, SymbolListed, of-terminal, of-nonterminal, SymbolsListed}
+use Rattle.handout.specs.Listing.{Wrote}
 
 -- one after the other
 module _ {us vs us′ vs′ a b c x y z : List ℕ} {p q r : Lengths} where
@@ -37,89 +39,27 @@ module _ {us vs us′ vs′ a b c x y z : List ℕ} {p q r : Lengths} where
 pub nothing : (a x : List ℕ) (p : Lengths) → Wrote [] [] a a x x p p
 nothing a x p = record { more-tokens = omega arith; more-rules = omega arith; sentence = refl; derivation = refl }
 
--- the symbols of u and of w, listed one after the other
-record Apart (g : Grammar) (u w us vs : List ℕ) : Type 0 where
-  us₁ : List ℕ
-  vs₁ : List ℕ
-  us₂ : List ℕ
-  vs₂ : List ℕ
-  one : SymbolsListed g u us₁ vs₁
-  two : SymbolsListed g w us₂ vs₂
-  tokens : us ≡ us₁ ++ us₂
-  rules : vs ≡ vs₁ ++ vs₂
-
--- tokens in front of symbols that are listed
+-- the symbols of w listed, and then one more
 module _ {g : Grammar} where
-  pub tokens-listed : (ts : List ℕ) {w us vs : List ℕ} → ((i : ℕ) → i < length ts → g .N ≤ getD ts i 0) →
-      SymbolsListed g w us vs → SymbolsListed g (ts ++ w) (ts ++ us) vs
-  tokens-listed [] h l = l
-  tokens-listed (s ∷ ts) h l =
-      let m = tokens-listed ts (λ i k. h (suc i) (omega arith)) l in
-      record {
-        forest = leaf (h 0 (omega arith)) (m .forest);
-        chosen = m .chosen;
-        tokens = ap (λ u. s ∷ u) (m .tokens);
-        rules = m .rules;
-      }
-
-  forest-apart : (u w : List ℕ) (f : Forest g (u ++ w)) → ChosenForest plain g f → Apart g u w (sentences f) (derivations f)
-  forest-apart [] w f h = record {
-    us₁ = [];
-    vs₁ = [];
-    us₂ = sentences f;
-    vs₂ = derivations f;
-    one = record { forest = nil; chosen = tt; tokens = refl; rules = refl };
-    two = record { forest = f; chosen = h; tokens = refl; rules = refl };
-    tokens = refl;
-    rules = refl;
+  pub one-more : {w : List ℕ} (f : Forest g w) {s : ℕ} {us vs : List ℕ} → ChosenForest plain g f → SymbolListed g s us vs →
+      SymbolsListed g (w ++ s ∷ []) (sentences f ++ us) (derivations f ++ vs)
+  one-more nil h (of-terminal p) = record { forest = leaf p nil; chosen = h; tokens = refl; rules = refl }
+  one-more nil h (of-nonterminal t d) = record {
+    forest = child t nil;
+    chosen = (d, h);
+    tokens = sym (append-nil (sentence t));
+    rules = sym (append-nil (derivation t));
   }
-  forest-apart (s ∷ u) w (leaf p f) h =
-      let m = forest-apart u w f h in
-      let one = m .one in
+  one-more (leaf {s} p f) h d =
+      let m = one-more f h d in
+      record { forest = leaf p (m .forest); chosen = m .chosen; tokens = ap (λ l. s ∷ l) (m .tokens); rules = m .rules }
+  one-more (child t f) h d =
+      let m = one-more f (h .1) d in
       record {
-        us₁ = s ∷ m .us₁;
-        vs₁ = m .vs₁;
-        us₂ = m .us₂;
-        vs₂ = m .vs₂;
-        one = record {
-          forest = leaf p (one .forest);
-          chosen = one .chosen;
-          tokens = ap (λ l. s ∷ l) (one .tokens);
-          rules = one .rules;
-        };
-        two = m .two;
-        tokens = ap (λ l. s ∷ l) (m .tokens);
-        rules = m .rules;
-      }
-  forest-apart (s ∷ u) w (child t f) h =
-      let m = forest-apart u w f (h .1) in
-      let one = m .one in
-      record {
-        us₁ = sentence t ++ m .us₁;
-        vs₁ = derivation t ++ m .vs₁;
-        us₂ = m .us₂;
-        vs₂ = m .vs₂;
-        one = record {
-          forest = child t (one .forest);
-          chosen = (h .0, one .chosen);
-          tokens = ap (λ l. sentence t ++ l) (one .tokens);
-          rules = ap (λ l. derivation t ++ l) (one .rules);
-        };
-        two = m .two;
-        tokens = ap (λ l. sentence t ++ l) (m .tokens) ∙ sym (append-assoc (sentence t) _ _);
-        rules = ap (λ l. derivation t ++ l) (m .rules) ∙ sym (append-assoc (derivation t) _ _);
-      }
-
-  -- a listing of a rule's symbols and of others, the rule's number in front, is one of its left side and the others
-  pub opened-listed : {s k : ℕ} {u w us vs : List ℕ} → RuleAt g k s u → Chosen plain g s k → SymbolsListed g (u ++ w) us vs →
-      SymbolsListed g (s ∷ w) us (k ∷ vs)
-  opened-listed {s} {k} {u} {w} rule chosen l =
-      let m = forest-apart u w (l .forest) (l .chosen) in
-      record {
-        forest = child (node k rule (m .one .forest)) (m .two .forest);
-        chosen = ((chosen, m .one .chosen), m .two .chosen);
-        tokens = l .tokens ∙ m .tokens ∙ rw (m .one .tokens, m .two .tokens);
-        rules = ap (λ j. k ∷ j) (l .rules ∙ m .rules ∙ rw (m .one .rules, m .two .rules));
+        forest = child t (m .forest);
+        chosen = (h .0, m .chosen);
+        tokens = append-assoc (sentence t) _ _ ∙ ap (λ l. sentence t ++ l) (m .tokens);
+        rules = append-assoc (derivation t) _ _ ∙ ap (λ l. derivation t ++ l) (m .rules);
       }
 
 -- the sizes of symbols
@@ -129,19 +69,24 @@ module _ (n : ℕ) (table : List ℕ) where
   sizes-append [] v = omega arith
   sizes-append (s ∷ u) v = omega (arith, sizes-append u v)
 
+  -- one symbol more
+  pub sizes-more : (w : List ℕ) (i : ℕ) → i < length w →
+      sizesBy n table (take (i + 1) w) ≡ sizesBy n table (take i w) + sizeBy n table (getD w i 0)
+  unfolding sizesBy
+  sizes-more w i h = rw (add-one i, take-suc w i 0 h) (omega (arith, sizes-append (take i w) (getD w i 0 ∷ [])))
+
+  -- and it is among them all
+  pub sizes-within : (w : List ℕ) (i : ℕ) → i < length w →
+      sizesBy n table (take i w) + sizeBy n table (getD w i 0) ≤ sizesBy n table w
+  sizes-within w i h =
+      let whole = ap (sizesBy n table) (take-append-drop (i + 1) w) in
+      omega (arith, whole, sizes-append (take (i + 1) w) (drop (i + 1) w), sizes-more w i h)
+
   pub terminal-size : (s : ℕ) → n ≤ s → sizeBy n table s ≡ 1
   unfolding sizeBy
   terminal-size s h = rw (le-ltb s n h)
 
-  -- tokens in front
-  pub tokens-size : (ts w : List ℕ) → ((i : ℕ) → i < length ts → n ≤ getD ts i 0) →
-      sizesBy n table (ts ++ w) ≡ length ts + sizesBy n table w
-  unfolding sizesBy
-  tokens-size [] w h = omega arith
-  tokens-size (s ∷ ts) w h =
-      omega (arith, terminal-size s (h 0 (omega arith)), tokens-size ts w (λ i k. h (suc i) (omega arith)))
-
-  pub least-size : (s : ℕ) → s < n → sizeBy n table s ≡ entry table s 0
+  least-size : (s : ℕ) → s < n → sizeBy n table s ≡ entry table s 0
   unfolding sizeBy
   least-size s h = rw (lt-ltb s n h)
 

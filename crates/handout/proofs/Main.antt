@@ -1,70 +1,30 @@
--- The final statements of this crate, each by one citation: what the promises of `replay` and `next` come to, and what a night of
--- calls of `next` comes to. A reader who believes specs/ and reads this page is done. Assumes nothing.
+-- The final statements of this crate, each by one citation: what the promise of `next` comes to, and what a night of calls of it
+-- comes to. A reader who believes specs/ and reads this page is done. Assumes nothing.
 use Prim.Native.Nat.{ℕ, _≤_, _<_}
 use mathlib.Core.Path.{_≡_}
 use mathlib.Core.Logic.{_↔_}
 use mathlib.Core.List.{List}
 use lib.ListN.{length}
 use Rattle.answers.specs.Refusals.{Refusal, broken-layout}
-use Rattle.answers.specs.Buffers.{over}
 use Rattle.grammar.specs.Words.{Grammar, R, layout, reads, FaultAt}
 use Rattle.grammar.specs.Derivation.{ProductionCoverage}
 use Rattle.grammar.specs.Refusals.{Accepted}
 use Rattle.tables.specs.Table.{HasTable}
 use Rattle.tables.specs.Dead.{Dead}
 use Rattle.tables.proofs.FirstRows.{Are}
-use Rattle.handout.specs.Replay as replay
-use Rattle.handout.specs.Replay.{Replay}
 use Rattle.handout.specs.Next as next
 use Rattle.handout.specs.Next.{NextPromise, Lent}
 use Rattle.handout.specs.Given.{Given, GivenFinished, GivenNext, Handed, SaysDead}
 use Rattle.handout.specs.Night.{Handout, Night, Over, Enough, GoesOn, HandedOut, SentenceOf, UsedIn, Proper, AllProper}
-use Rattle.handout.specs.declared.ReplayAnswer.{ReplayAnswer}
-use Rattle.handout.specs.declared.ReplayAnswer.the-variants.{Done}
 use Rattle.handout.specs.declared.NextAnswer.{NextAnswer}
 use Rattle.handout.specs.declared.NextAnswer.the-variants.{Next, Finished}
-use Rattle.handout.proofs.ReplaySettles as ReplaySettles
-use Rattle.handout.proofs.ReplayExact as ReplayExact
 use Rattle.handout.proofs.NextSettles as NextSettles
 use Rattle.handout.proofs.NextMet as NextMet
 use Rattle.handout.proofs.NextExact as NextExact
 use Rattle.handout.proofs.NextDead as NextDead
 use Rattle.handout.proofs.NightProper as NightProper
 use Rattle.handout.proofs.NightCovers as NightCovers
-use Rattle.handout.proofs.HandoutsReplay as HandoutsReplay
 use Rattle.handout.proofs.NightEnds as NightEnds
-
--- REPLAY. Its promise allows exactly one outcome, answer and buffer, for each words, each list and each buffer before.
-pub replay-settles : (words list before : List ℕ) {a a′ : ReplayAnswer} {after after′ : List ℕ} →
-    Replay words list before a after → Replay words list before a′ after′ → (a ≡ a′) × (after ≡ after′)
-replay-settles = ReplaySettles.replay-settles
-
-pub replay-met : (words list before : List ℕ) → (a : ReplayAnswer) × (after : List ℕ) × Replay words list before a after
-replay-met = ReplaySettles.replay-met
-
--- Each refusal is given exactly when document 01 says so (`Given`), and then the buffer keeps its content. A sentence is written
--- exactly where there is room for it and the list is a complete leftmost derivation of it, of at most 4,096 numbers; Done tells
--- of nothing else.
-pub replay-refuses : {words list before after : List ℕ} {a : ReplayAnswer} → Replay words list before a after →
-    (r : Refusal) → (a ≡ replay.refused r) ↔ ReplayExact.Given words list before r
-replay-refuses = ReplayExact.replay-refuses
-
-pub replay-first-offence : {words list before after : List ℕ} {a : ReplayAnswer} → Replay words list before a after →
-    (p : ℕ) → (a ≡ replay.refused (broken-layout p)) ↔ FaultAt words p
-replay-first-offence = ReplayExact.replay-first-offence
-
-pub replay-keeps : {words list before after : List ℕ} {a : ReplayAnswer} → Replay words list before a after →
-    (r : Refusal) → a ≡ replay.refused r → after ≡ before
-replay-keeps = ReplayExact.replay-keeps
-
-pub replay-done : {words list before after : List ℕ} {a : ReplayAnswer} → Replay words list before a after →
-    (t : List ℕ) → ((a ≡ Done (length t)) × (after ≡ over t before)) ↔ ReplayExact.GivenDone words list before t
-replay-done = ReplayExact.replay-done
-
-pub replay-writes : {words list before after : List ℕ} {a : ReplayAnswer} → Replay words list before a after →
-    (n : ℕ) → a ≡ Done n →
-    (t : List ℕ) × ReplayExact.GivenDone words list before t × (n ≡ length t) × (after ≡ over t before)
-replay-writes = ReplayExact.replay-writes
 
 -- NEXT. Its promise allows exactly one outcome, answer and three buffers, for each words, each table and each buffers before.
 pub next-settles : (words table : List ℕ) (before : Lent) {a a′ : NextAnswer} {after after′ : Lent} →
@@ -120,13 +80,6 @@ night-proper = NightProper.night-proper
 pub each-proper : {g : Grammar} {hs : List Handout} {r : ℕ} {t ks : List ℕ} → AllProper g hs → HandedOut hs r t ks →
     (earlier-ones : List Handout) × Proper g earlier-ones r t ks
 each-proper = NightCovers.each-proper
-
--- Its derivation replays to its sentence.
-pub handouts-replay : {words table marks : List ℕ} {hs : List Handout} {g : Grammar} → layout words ≡ reads g →
-    Night words table hs marks → {r : ℕ} {t ks : List ℕ} → HandedOut hs r t ks →
-    {before after : List ℕ} {a : ReplayAnswer} → length t ≤ length before → Replay words ks before a after →
-    (a ≡ Done (length t)) × (after ≡ over t before)
-handouts-replay = HandoutsReplay.handouts-replay
 
 -- After n sentences every rule below n is used; there are never more than R; at Finished all are used, and the sentences satisfy
 -- Definition 2.10.

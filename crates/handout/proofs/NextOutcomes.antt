@@ -25,16 +25,16 @@ use Rattle.tables.specs.declared.TableTest.{TableTest}
 use Rattle.tables.specs.declared.TableTest.the-variants as test
 use Rattle.handout.specs.Next.{Lent, Marked, Wanted, NextPromise}
 use Rattle.handout.specs.Next.{row-4, row-5, row-6, row-7, row-8, row-9, finished, row-3, row-10, next}
-use Rattle.handout.specs.Asked.{Tabled, Asked, Prepared}
+use Rattle.handout.specs.Asked.{Tabled, Asked, Requested}
 use Rattle.handout.specs.Listing.{Known, Wrote}
-use Rattle.handout.specs.TreeListing.{TreeReady, TreeRoom, TreeCounted, TreeFits, TreeWritten, none-so-far}
+use Rattle.handout.specs.TreeListing.{TreeReady, TreeCounted, TreeFits, TreeWritten, none-so-far}
 use Rattle.handout.specs.MarkSteps.{FirstUnused}
+use Rattle.handout.specs.declared.tree_lister.Request.{Request}
 use Rattle.handout.specs.declared.marks.Found.{Found}
 use Rattle.handout.specs.declared.marks.Found.the-variants.{At, Nothing}
 use Rattle.handout.specs.declared.lister.Lengths.{Lengths}
 use Rattle.handout.specs.declared.NextAnswer.the-variants.{Refused, Finished, Next}
 use Rattle.handout.proofs.MarkLaws.{lowest-found, none-found, marked-written}
-use Rattle.handout.proofs.ListerSteps.{room-kept}
 use Rattle.handout.proofs.ListerWrites.{at-front}
 
 -- what the test refuses is refused
@@ -115,12 +115,14 @@ module _ {words starts table marks : List ℕ} {r : ℕ} (a : Asked words starts
   words-are : words ≡ W.words (a .g)
   words-are = layout-exact words (a .g) .0 (a .known .view .is) .1
 
-  -- n and the start were read from the words
-  pub prepared : {n start : ℕ} → n ≡ getD words 0 0 → start ≡ getD words 2 0 → Prepared words table marks starts n start r
-  prepared w s = record {
+  -- n and the start were read from the words, and the total from the table
+  pub requested : {n start total : ℕ} → n ≡ getD words 0 0 → start ≡ getD words 2 0 → total ≡ getD table (5 * n + r) 0 →
+      Requested words starts table marks (record { n = n; start = start; target = r; total = total })
+  requested w s t = record {
     asked = a;
     nonterminals = w ∙ ap (λ (x : List ℕ). getD x 0 0) words-are;
     starts-at = s ∙ ap (λ (x : List ℕ). getD x 2 0) words-are;
+    total = t;
   }
 
   -- its total stands where the code reads it
@@ -130,11 +132,11 @@ module _ {words starts table marks : List ℕ} {r : ℕ} (a : Asked words starts
       let at-first = ap (λ (x : List ℕ). getD x 0 0) words-are in
       omega (arith, a .target .such .rule, ok .at-most-256, ok .nonterminals, at-first)
 
-module _ {words table marks starts : List ℕ} {n start r : ℕ} (p : Prepared words table marks starts n start r) where
-  known-so : Known words starts table n (p .asked .g)
+module _ {words starts table marks : List ℕ} {q : Request} (p : Requested words starts table marks q) where
+  known-so : Known words starts table (q .n) (p .asked .g)
   known-so = rw (p .nonterminals) (p .asked .known)
 
-  pub ready : TreeReady words starts table n start r
+  pub ready : TreeReady words starts table (q .n) (q .start) (q .target)
   ready = record {
     g = p .asked .g;
     known = known-so;
@@ -142,27 +144,6 @@ module _ {words table marks starts : List ℕ} {n start r : ℕ} (p : Prepared w
     accepted = p .asked .accepted;
     number = p .asked .target .such .rule;
   }
-
-  -- it is at most 4,096
-  pub total-within : {total : ℕ} → total ≡ getD table (5 * n + r) 0 → total ≤ 4096
-  total-within e =
-      let g = p .asked .g in
-      let below = p .asked .target .such .rule in
-      let fits = p .asked .accepted .fit r below in
-      let is = total-unique (fits .is) (p .asked .known .tabled .totals r below) in
-      let stands = total-front g table r below in
-      let same = ap (λ (k : ℕ). getD table (5 * k + r) 0) (p .nonterminals) in
-      omega (arith, fits .within)
-
-  -- an array as long as that has room for the path
-  pub room-by-total : {total : ℕ} {path ats lefts : List ℕ} → total ≡ getD table (5 * n + r) 0 → total ≤ length path →
-      length ats ≤ length lefts → TreeRoom table n r path ats lefts
-  room-by-total e l m = record { room = record { few = omega (arith, total-within e); same = m }; short = omega arith }
-
--- and it has it again, whatever is written to it
-pub room-stays : {table path ats lefts path′ ats′ lefts′ : List ℕ} {n r : ℕ} → TreeRoom table n r path ats lefts →
-    length path′ ≡ length path → length ats′ ≡ length ats → length lefts′ ≡ length lefts → TreeRoom table n r path′ ats′ lefts′
-room-stays room e f h = record { room = room-kept (room .room) f h; short = omega (arith, room .short) }
 
 -- there is room for the tree where there is as much as the table's total says, or as was counted
 module _ {words table starts : List ℕ} {n start r : ℕ} where
@@ -184,21 +165,20 @@ module _ {words table starts : List ℕ} {n start r : ℕ} where
       (omega arith, omega arith)
 
 -- and where there is, there is for the numbers that are marked
-pub numbers-within : {words table marks starts : List ℕ} {n start r : ℕ} {so : Lengths} →
-    Prepared words table marks starts n start r → TreeCounted words starts table n start r so → (tokens rules : List ℕ) →
-    TreeFits words starts table n start r tokens rules → so .rules ≤ length rules
+pub numbers-within : {words starts table marks : List ℕ} {q : Request} {so : Lengths} → Requested words starts table marks q →
+    TreeCounted words starts table (q .n) (q .start) (q .target) so → (tokens rules : List ℕ) →
+    TreeFits words starts table (q .n) (q .start) (q .target) tokens rules → so .rules ≤ length rules
 numbers-within p counts tokens rules fits =
     let tree = tree-of (p .asked) in
     let e = counts (p .asked .g) (known-so p) (p .starts-at) (tree .0) (tree .1) .1 in
     omega (arith, fits (p .asked .g) (known-so p) (p .starts-at) (tree .0) (tree .1) .1)
 
 -- 3, 10, or the sentence
-module _ {words table starts : List ℕ} {n start r : ℕ} (before : Lent)
-    (p : Prepared words table (before .marks) starts n start r) where
+module _ {words starts table : List ℕ} {q : Request} (before : Lent) (p : Requested words starts table (before .marks) q) where
   abbrev tree : Tree (p .asked .g) (p .asked .g .start)
   tree = tree-of (p .asked) .0
 
-  module _ {so : Lengths} (counts : TreeCounted words starts table n start r so) where
+  module _ {so : Lengths} (counts : TreeCounted words starts table (q .n) (q .start) (q .target) so) where
     counted : (so .tokens ≡ length (sentence tree)) × (so .rules ≡ length (derivation tree))
     counted = counts (p .asked .g) (known-so p) (p .starts-at) tree (tree-of (p .asked) .1)
 
@@ -211,8 +191,8 @@ module _ {words table starts : List ℕ} {n start r : ℕ} (before : Lent)
         let d = counted .0 in let e = counted .1 in rw e (row-10 (wanted (p .asked)) (omega arith) (omega arith))
 
   -- what was written, and marked
-  module _ {tokens rules : List ℕ} {so : Lengths} (fits : TreeFits words starts table n start r (before .tokens) (before .rules))
-      (writes : TreeWritten words starts table n start r (before .tokens) tokens (before .rules) rules so) where
+  module _ {tokens rules : List ℕ} {so : Lengths} (fits : TreeFits words starts table (q .n) (q .start) (q .target) (before .tokens) (before .rules))
+      (writes : TreeWritten words starts table (q .n) (q .start) (q .target) (before .tokens) tokens (before .rules) rules so) where
     wrote : Wrote (sentence tree) (derivation tree) (before .tokens) tokens (before .rules) rules none-so-far so
     wrote = writes (p .asked .g) (known-so p) (p .starts-at) tree (tree-of (p .asked) .1)
 
@@ -220,7 +200,7 @@ module _ {words table starts : List ℕ} {n start r : ℕ} (before : Lent)
     room = fits (p .asked .g) (known-so p) (p .starts-at) tree (tree-of (p .asked) .1)
 
     pub hands-out : {marks : List ℕ} → Marked (take (so .rules) rules) (before .marks) marks →
-        NextPromise words table before (Next r (so .tokens) (so .rules))
+        NextPromise words table before (Next (q .target) (so .tokens) (so .rules))
         (record { marks = marks; tokens = tokens; rules = rules })
     hands-out {marks} marked =
         let ks = derivation tree in

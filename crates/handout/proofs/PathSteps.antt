@@ -1,5 +1,5 @@
--- The way from a nonterminal up to the start, by context choices: noting it ends, as contexts fall, and its steps are no more than
--- the first context; and what lies before and after the first nonterminal is what lies beside the noted ones, step by step.
+-- The way from a nonterminal up to the start, by context choices: noting it ends, as contexts fall, and its steps are fewer than the
+-- nonterminals; and what lies before and after the first nonterminal is what lies beside the noted ones, step by step.
 -- Assumes nothing.
 use Prim.Native.Nat.{ℕ, zero, suc, _+_, _-_, _≤_, _<_}
 use native.Mathlib.Decide.{decLt}
@@ -16,17 +16,18 @@ use Rattle.grammar.specs.Least.{ChosenOpen}
 use Rattle.grammar.proofs.RuleNumbers.{rule-number}
 use Rattle.tables.specs.Table.{entry}
 use Rattle.handout.specs.declared.lister.Lengths.{Lengths}
-use Rattle.handout.specs.Listing.{Known, sizesBy, Room, SymbolsWritten}
-use Rattle.handout.specs.TreeListing.{BesideReady, frontOf, backOf, FrontWritten, upper, climbed, PathOf, before, after}
+use Rattle.handout.specs.Listing.{Known, SymbolsWritten}
+use Rattle.handout.specs.TreeListing.{FrontReady, BackReady, backOf, FrontWritten, upper, climbed, PathOf, before, after}
 use Rattle.handout.specs.TreeListing.{SideReady, SideWritten, ClimbReady}
+use Rattle.handout.proofs.FewContexts.{lower, lower-falls, lower-within}
 use Rattle.handout.proofs.TreeListerSteps.{Up, up, open-nonterminal, start-written, before-ready, front-ready, before-written}
 use Rattle.handout.proofs.TreeListerSteps.{back-ready, after-ready, after-written}
 
--- the context choices lead on from a, so many steps up from A, and the contexts have fallen by as many
-pub record Reached (table : List ℕ) (g : Grammar) (A steps a : ℕ) : Type 0 where
+-- the context choices lead on from a, so many steps up from A, and by as many fewer contexts are lower
+pub record Reached (table : List ℕ) (n : ℕ) (g : Grammar) (A steps a : ℕ) : Type 0 where
   pub above : Open g a
   pub follows : ChosenOpen plain g above
-  pub fallen : steps + entry table a 2 ≤ entry table A 2
+  pub fallen : steps + lower table n (entry table a 2) ≤ lower table n (entry table A 2)
 
 -- what noting them keeps: a is so many steps up from A, and those below it are noted
 pub record OnWay (words starts table : List ℕ) (start A : ℕ) (path : List ℕ) (a steps : ℕ) : Type 0 where
@@ -34,7 +35,7 @@ pub record OnWay (words starts table : List ℕ) (start A : ℕ) (path : List �
   pub noted : (i : ℕ) → i < steps → getD path i 0 ≡ climbed words starts table A i
   pub other : (i : ℕ) → i < steps → ¬ (climbed words starts table A i ≡ start)
   pub leads : (n : ℕ) (g : Grammar) → Known words starts table n g → start ≡ g .start → (x : Open g A) →
-      ChosenOpen plain g x → Reached table g A steps a
+      ChosenOpen plain g x → Reached table n g A steps a
 
 pub way-begins : (words starts table : List ℕ) (start A : ℕ) (path : List ℕ) → OnWay words starts table start A path A 0
 unfolding climbed
@@ -58,7 +59,8 @@ module _ {words starts table : List ℕ} {start A : ℕ} {path : List ℕ} {a st
     leads = λ n g known s x h.
         let so = way .leads n g known s x h in
         let u = up known (so .above) (so .follows) (λ q. d (q ∙ sym s)) _ _ b refl refl e in
-        record { above = u .above; follows = u .follows; fallen = omega (arith, so .fallen, u .falls) };
+        let low : b < n = omega (arith, open-nonterminal known (u .above), known .view .nonterminals) in
+        record { above = u .above; follows = u .follows; fallen = omega (arith, so .fallen, lower-falls table n b _ low (u .falls)) };
   }
     where
       noted : (i : ℕ) → i < steps + 1 → Dec (i < steps) → getD path′ i 0 ≡ climbed words starts table A i
@@ -75,19 +77,26 @@ module _ {words starts table : List ℕ} {start A : ℕ} {path : List ℕ} {a st
           λ q. d (way .here ∙ ap (climbed words starts table A) (sym same) ∙ q)
 
   module _ {path₀ : List ℕ} (ready : ClimbReady words starts table start A path₀) where
-    so-far : Reached table (ready .g) A steps a
+    so-far : Reached table (ready .n) (ready .g) A steps a
     so-far = way .leads (ready .n) (ready .g) (ready .known) (ready .starts-at) (ready .above) (ready .follows)
+
+    few-steps : steps < ready .n
+    few-steps =
+        let low : A < ready .n = omega (arith, open-nonterminal (ready .known) (ready .above), ready .known .view .nonterminals) in
+        omega (arith, so-far .fallen, lower-within table (ready .n) A low)
 
     -- at the start
     pub way-ends : a ≡ start → length path ≡ length path₀ → PathOf words starts table start A path steps
     way-ends e l = record {
-      short = omega (arith, so-far .fallen, ready .short);
+      short = omega (arith, few-steps, ready .long);
       noted = way .noted;
       other = way .other;
       ends = sym (way .here) ∙ e;
     }
 
-    -- below the start
+    pub way-short : steps < length path₀
+    way-short = omega (arith, few-steps, ready .long)
+
     pub way-low : a < ready .n
     way-low = omega (arith, open-nonterminal (ready .known) (so-far .above), ready .known .view .nonterminals)
 
@@ -101,30 +110,27 @@ module _ {words starts table : List ℕ} {start A : ℕ} {path : List ℕ} {a st
       pub way-falls : entry table (upper words starts table a) 2 < entry table a 2
       way-falls = above .falls
 
-      pub way-short : steps < length path₀
-      way-short = omega (arith, so-far .fallen, ready .short, way-falls)
-
 -- over a path that is noted
 module _ {words starts table : List ℕ} {n start A steps : ℕ} {path : List ℕ} (way : PathOf words starts table start A path steps)
   where
     -- what lies before each can be listed
-    before-at : {p : Lengths} {most : ℕ} → SideReady before words starts table n start A p most → (i : ℕ) → i ≤ steps →
-        SideReady before words starts table n start (climbed words starts table A i) p most
+    before-at : {p : Lengths} → SideReady before words starts table n start A p → (i : ℕ) → i ≤ steps →
+        SideReady before words starts table n start (climbed words starts table A i) p
     unfolding climbed
     before-at ready zero l = ready
     before-at ready (suc i) l = before-ready (before-at ready i (omega arith)) (way .other i l)
 
     -- down: where what is before one is written, what is beside the next can be, and then what is before that is written
-    pub front-at : {p q : Lengths} {most b : ℕ} {s t x y ats lefts : List ℕ} → SideReady before words starts table n start A p most →
-        Room most ats lefts → (i : ℕ) → 0 < i → i ≤ steps → b ≡ getD path (i - 1) 0 →
+    pub front-at : {p q : Lengths} {b : ℕ} {s t x y : List ℕ} → SideReady before words starts table n start A p →
+        (i : ℕ) → 0 < i → i ≤ steps → b ≡ getD path (i - 1) 0 →
         SideWritten before words starts table n start (climbed words starts table A i) s t x y p q →
-        BesideReady words starts table n b (1 + sizesBy n table (frontOf words starts table b)) q ats lefts
+        FrontReady words starts table n b q
     unfolding climbed
-    front-at ready room zero h l e above = absurd (omega arith)
-    front-at ready room (suc i) h l e above =
+    front-at ready zero h l e above = absurd (omega arith)
+    front-at ready (suc i) h l e above =
         let back : suc i - 1 ≡ i = omega arith in
         let same = e ∙ ap (λ (j : ℕ). getD path j 0) back ∙ way .noted i l in
-        rw same (front-ready (before-at ready i (omega arith)) (way .other i l) room above)
+        rw same (front-ready (before-at ready i (omega arith)) (way .other i l) above)
 
     pub before-goes-on : {p q r : Lengths} {b : ℕ} {s t u x y z : List ℕ} (i : ℕ) → 0 < i → i ≤ steps → b ≡ getD path (i - 1) 0 →
         SideWritten before words starts table n start (climbed words starts table A i) s t x y p q →
@@ -149,8 +155,8 @@ module _ {words starts table : List ℕ} {n start A steps : ℕ} {path : List �
 
 -- up: what is written so far, and then what lies after the next one, lie after the first
 pub record AfterSo (words starts table : List ℕ) (n start A : ℕ) (a b x y : List ℕ) (p q : Lengths) (i : ℕ) : Type 0 where
-  pub ready : (most : ℕ) → SideReady after words starts table n start A p most →
-      SideReady after words starts table n start (climbed words starts table A i) q most
+  pub ready : SideReady after words starts table n start A p →
+      SideReady after words starts table n start (climbed words starts table A i) q
   pub goes-on : (c v : List ℕ) (r : Lengths) →
       SideWritten after words starts table n start (climbed words starts table A i) b c y v q r →
       SideWritten after words starts table n start A a c x v p r
@@ -158,14 +164,13 @@ pub record AfterSo (words starts table : List ℕ) (n start A : ℕ) (a b x y : 
 pub after-begins : (words starts table : List ℕ) (n start A : ℕ) (a x : List ℕ) (p : Lengths) →
     AfterSo words starts table n start A a a x x p p 0
 unfolding climbed
-after-begins words starts table n start A a x p = record { ready = λ most h. h; goes-on = λ c v r h. h }
+after-begins words starts table n start A a x p = record { ready = λ h. h; goes-on = λ c v r h. h }
 
 module _ {words starts table : List ℕ} {n start A steps : ℕ} {path : List ℕ} (way : PathOf words starts table start A path steps)
     {a b x y : List ℕ} {p q : Lengths} {i : ℕ} (so : AfterSo words starts table n start A a b x y p q i) where
-  pub back-at : {most b′ : ℕ} {ats lefts : List ℕ} → SideReady after words starts table n start A p most → Room most ats lefts →
-      i < steps → b′ ≡ getD path i 0 →
-      BesideReady words starts table n b′ (sizesBy n table (backOf words starts table b′)) q ats lefts
-  back-at ready room l e = rw (e ∙ way .noted i l) (back-ready (so .ready _ ready) (way .other i l) room)
+  pub back-at : {b′ : ℕ} → SideReady after words starts table n start A p → i < steps → b′ ≡ getD path i 0 →
+      BackReady words starts table n b′ q
+  back-at ready l e = rw (e ∙ way .noted i l) (back-ready (so .ready ready) (way .other i l))
 
   pub after-goes-on : {b′ : ℕ} {d w : List ℕ} {r : Lengths} → i < steps → b′ ≡ getD path i 0 →
       SymbolsWritten words starts table n (backOf words starts table b′) b d y w q r →
@@ -175,7 +180,7 @@ module _ {words starts table : List ℕ} {n start A steps : ℕ} {path : List �
       let here : SymbolsWritten words starts table n (backOf words starts table (climbed words starts table A i)) b d y w q r =
       rw (e ∙ way .noted i l) at back in
       rw (add-one i) (record {
-        ready = λ most h. after-ready (so .ready most h) (way .other i l) here;
+        ready = λ h. after-ready (so .ready h) (way .other i l) here;
         goes-on = λ c v s above. so .goes-on c v s (after-written (way .other i l) here above);
       })
 

@@ -16,8 +16,8 @@ use Rattle.tables.specs.Table.{entry}
 use Rattle.tables.proofs.TablePlaces.{entry-front}
 use Rattle.grammar.proofs.RulesInView.{viewed-left, viewed-right}
 use Rattle.handout.specs.declared.lister.Lengths.{Lengths}
-use Rattle.handout.specs.Listing.{Known, sizesBy, rightOf, Room, Wrote, SymbolsWritten}
-use Rattle.handout.specs.TreeListing.{BesideReady, frontOf, backOf, FrontWritten, upper, Side, before, after}
+use Rattle.handout.specs.Listing.{Known, sizesBy, rightOf, Wrote, SymbolsWritten}
+use Rattle.handout.specs.TreeListing.{Beside, frontOf, backOf, FrontReady, BackReady, FrontWritten, upper, Side, before, after}
 use Rattle.handout.specs.TreeListing.{gapTokens, gapRules, tokensOn, rulesOn, SideReady, SideWritten}
 use Rattle.handout.proofs.Listings.{and-then, nothing}
 use Rattle.handout.proofs.OpenListings.{before-listed, after-listed, gap-within, listed-same, listed-size}
@@ -105,27 +105,22 @@ module _ {words starts table : List ℕ} {n start : ℕ} where
       wrote-as (sym us) (sym vs) (nothing a x p)
 
   -- the step up that the tree lister takes, from what it reads of the table and the words
-  module _ {side : Side} {A : ℕ} {p : Lengths} {most : ℕ} (ready : SideReady side words starts table n start A p most)
+  module _ {side : Side} {A : ℕ} {p : Lengths} (ready : SideReady side words starts table n start A p)
       (d : ¬ (A ≡ start)) where
     z : Up (ready .known) (ready .above) (entry table A 3) (entry table A 4) (upper words starts table A)
     z = up (ready .known) (ready .above) (ready .follows) (λ e. d (e ∙ sym (ready .starts-at))) _ _ _ refl refl refl
 
-    -- what is beside the leaf in the context rule can be listed, where there is room
-    beside-ready : {size : ℕ} {q : Lengths} {ats lefts : List ℕ} → Room most ats lefts → q .tokens + q .rules + size ≤ most →
-        BesideReady words starts table n A size q ats lefts
-    beside-ready room h = record {
-      g = ready .g;
+    -- the leaf has a place in the context rule
+    beside : Beside words starts table n A (ready .g)
+    beside = record {
       known = ready .known;
       leaf = omega (arith, open-nonterminal (ready .known) (ready .above), ready .known .view .nonterminals);
       number = rule-number (z .rule);
       place = omega (arith, gap-within (z .gap), ap length (z .right));
-      most = most;
-      room = room;
-      within = h;
     }
 
   -- before an open leaf
-  module _ {A : ℕ} {p : Lengths} {most : ℕ} (ready : SideReady before words starts table n start A p most)
+  module _ {A : ℕ} {p : Lengths} (ready : SideReady before words starts table n start A p)
       (d : ¬ (A ≡ start)) where
     abbrev u : Up (ready .known) (ready .above) (entry table A 3) (entry table A 4) (upper words starts table A)
     u = z ready d
@@ -138,26 +133,29 @@ module _ {words starts table : List ℕ} {n start : ℕ} where
         length (rulesOn before (ready .above)) ≡ length (rulesOn before (u .above)) + suc (length (gapRules before (u .gap)))
     rules-long = ap length (u .rules-before) ∙ length-append (rulesOn before (u .above)) (entry table A 3 ∷ gapRules before (u .gap))
 
-    pub before-ready : SideReady before words starts table n start (upper words starts table A) p most
+    pub before-ready : SideReady before words starts table n start (upper words starts table A) p
     before-ready = record {
       g = ready .g;
       known = ready .known;
       starts-at = ready .starts-at;
       above = u .above;
       follows = u .follows;
-      within = omega (arith, ready .within, tokens-long, rules-long);
+      few = omega (arith, ready .few, tokens-long, rules-long);
     }
 
-    pub front-ready : {a b x y ats lefts : List ℕ} {q : Lengths} → Room most ats lefts →
-        SideWritten before words starts table n start (upper words starts table A) a b x y p q →
-        BesideReady words starts table n A (1 + sizesBy n table (frontOf words starts table A)) q ats lefts
-    front-ready {q = q} room above =
+    pub front-ready : {a b x y : List ℕ} {q : Lengths} →
+        SideWritten before words starts table n start (upper words starts table A) a b x y p q → FrontReady words starts table n A q
+    front-ready above =
         let there = above (ready .g) (ready .known) (ready .starts-at) (u .above) (u .follows) in
         let size = listed-size (ready .known) (before-listed (u .gap) (u .chosen)) in
         let same = ap (λ w. sizesBy n table (take (entry table A 4) w)) (u .right) in
         let us = there .more-tokens in
         let vs = there .more-rules in
-        beside-ready ready d room (omega (arith, ready .within, tokens-long, rules-long, us, vs, size, same))
+        record {
+          g = ready .g;
+          beside = beside ready d;
+          few = omega (arith, ready .few, tokens-long, rules-long, us, vs, size, same);
+        }
 
   pub before-written : {A : ℕ} {p q r : Lengths} {a b c x y v : List ℕ} → ¬ (A ≡ start) →
       SideWritten before words starts table n start (upper words starts table A) a b x y p q →
@@ -173,7 +171,7 @@ module _ {words starts table : List ℕ} {n start : ℕ} where
       (ap (λ m. rulesOn before (u .above) ++ m) (l .lists .is ∙ ap (λ m. entry table A 3 ∷ m) vs) ∙ sym (u .rules-before)) all
 
   -- after an open leaf
-  module _ {A : ℕ} {p : Lengths} {most : ℕ} (ready : SideReady after words starts table n start A p most)
+  module _ {A : ℕ} {p : Lengths} (ready : SideReady after words starts table n start A p)
       (d : ¬ (A ≡ start)) where
     abbrev u′ : Up (ready .known) (ready .above) (entry table A 3) (entry table A 4) (upper words starts table A)
     u′ = z ready d
@@ -191,20 +189,23 @@ module _ {words starts table : List ℕ} {n start : ℕ} where
         ap (λ w. sizesBy n table (drop (suc (entry table A 4)) w)) (u′ .right)
         ∙ listed-size (ready .known) (after-listed (u′ .gap) (u′ .chosen))
 
-    pub back-ready : {ats lefts : List ℕ} → Room most ats lefts →
-        BesideReady words starts table n A (sizesBy n table (backOf words starts table A)) p ats lefts
-    back-ready room = beside-ready ready d room (omega (arith, ready .within, tokens-long′, rules-long′, size′))
+    pub back-ready : BackReady words starts table n A p
+    back-ready = record {
+      g = ready .g;
+      beside = beside ready d;
+      few = omega (arith, ready .few, tokens-long′, rules-long′, size′);
+    }
 
     pub after-ready : {a b x y : List ℕ} {q : Lengths} →
         SymbolsWritten words starts table n (backOf words starts table A) a b x y p q →
-        SideReady after words starts table n start (upper words starts table A) q most
+        SideReady after words starts table n start (upper words starts table A) q
     after-ready beside = record {
       g = ready .g;
       known = ready .known;
       starts-at = ready .starts-at;
       above = u′ .above;
       follows = u′ .follows;
-      within = omega (arith, ready .within, tokens-long′, rules-long′, size′, beside .counted);
+      few = omega (arith, ready .few, tokens-long′, rules-long′, size′, beside .counted);
     }
 
   pub after-written : {A : ℕ} {p q r : Lengths} {a b c x y v : List ℕ} → ¬ (A ≡ start) →

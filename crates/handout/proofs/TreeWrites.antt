@@ -13,19 +13,17 @@ use Rattle.grammar.proofs.LayoutExact.{in-bounds}
 use Rattle.grammar.proofs.SizeIsLength.{size-is-length}
 use Rattle.grammar.proofs.TreeOfExists.{tree-of-exists}
 use Rattle.grammar.proofs.Totals.{tree-of-total}
-use Rattle.grammar.proofs.Unique.{context-unique, total-unique}
+use Rattle.grammar.proofs.Unique.{total-unique}
 use Rattle.grammar.proofs.RulesInView.{viewed-left, viewed-right}
-use Rattle.tables.specs.Table.{entry}
 use Rattle.tables.proofs.TablePlaces.{total-front}
 use Rattle.handout.specs.declared.lister.Lengths.{Lengths}
-use Rattle.handout.specs.Listing.{RuleReady, sizesBy, rightOf, Room, SymbolsListed, Wrote, RuleWritten}
+use Rattle.handout.specs.Listing.{RuleReady, sizesBy, rightOf, SymbolsListed, Wrote, RuleWritten}
 use Rattle.handout.specs.TreeListing.{PathOf, before, after, tokensOn, rulesOn, SideReady, ClimbReady, WayReady}
-use Rattle.handout.specs.TreeListing.{SideWritten, WayWritten, TreeReady, TreeRoom, none-so-far, TreeWritten, TreeCounted}
+use Rattle.handout.specs.TreeListing.{SideWritten, WayWritten, TreeReady, none-so-far, TreeWritten, TreeCounted}
 use Rattle.handout.proofs.Listings.{and-then}
-use Rattle.handout.proofs.ListerSteps.{room-kept}
 use Rattle.handout.proofs.ListerWrites.{rule-written}
 use Rattle.handout.proofs.OpenListings.{plug-tokens, plug-rules, listed-size}
-use Rattle.handout.proofs.TreeListerSteps.{known-context, wrote-as}
+use Rattle.handout.proofs.TreeListerSteps.{wrote-as}
 
 -- a tree's listing in three parts
 module _ {g : Grammar} {r : ℕ} {t : Tree g (g .start)} (z : TreeOf plain g r t) where
@@ -62,6 +60,13 @@ module _ {words starts table : List ℕ} {n start r : ℕ} (ready : TreeReady wo
       let is = total-unique (tree-of-total plain (the-tree .1)) (ready .known .tabled .totals r (ready .number)) in
       omega (arith, size-is-length (the-tree .0), is, total-front (ready .g) table r (ready .number), total-stands)
 
+  -- it is at most 4,096
+  total-few : total ≤ 4096
+  total-few =
+      let fits = ready .accepted .fit r (ready .number) in
+      let is = total-unique (fits .is) (ready .known .tabled .totals r (ready .number)) in
+      omega (arith, fits .within, is, total-front (ready .g) table r (ready .number), total-stands)
+
   -- the three parts together
   parts : length (tokensOn before (the-tree .1 .above)) + length (rulesOn before (the-tree .1 .above))
       + (1 + sizesBy n table (rightOf words starts r))
@@ -84,94 +89,71 @@ module _ {words starts table : List ℕ} {n start r : ℕ} (ready : TreeReady wo
     is-left : A ≡ the-tree .1 .A
     is-left = left ∙ viewed-left (ready .known .view) (the-tree .1 .rule)
 
-    -- the context of the left side is a part of the total
-    context-within : entry table A 2 ≤ total
-    context-within =
-        let t = ready .known .tabled .totals r (ready .number) in
-        let rule = t .rule .rule in
-        let same = left ∙ viewed-left (ready .known .view) rule in
-        let outer = context-unique (known-context (ready .known) (t .A) (rule .left)) (t .context) in
-        let here = ap (λ (B : ℕ). entry table B 2) same in
-        omega (arith, here, outer, t .is, total-front (ready .g) table r (ready .number), total-stands)
-
-    first-ready : SideReady before words starts table n start A none-so-far total
+    first-ready : SideReady before words starts table n start A none-so-far
     first-ready = rw is-left (record {
       g = ready .g;
       known = ready .known;
       starts-at = ready .starts-at;
       above = the-tree .1 .above;
       follows = the-tree .1 .follows;
-      within = omega (arith, parts);
+      few = omega (arith, parts, total-few);
     })
 
-    module _ {path ats lefts : List ℕ} (room : TreeRoom table n r path ats lefts) where
-      pub climb-ready : ClimbReady words starts table start A path
-      climb-ready = record {
-        n = n;
-        g = first-ready .g;
-        known = first-ready .known;
-        starts-at = first-ready .starts-at;
-        above = first-ready .above;
-        follows = first-ready .follows;
-        short = omega (arith, context-within, room .short);
-      }
+    pub climb-ready : {path : List ℕ} → 128 ≤ length path → ClimbReady words starts table start A path
+    climb-ready long = record {
+      n = n;
+      g = first-ready .g;
+      known = first-ready .known;
+      starts-at = first-ready .starts-at;
+      above = first-ready .above;
+      follows = first-ready .follows;
+      long = omega (arith, ready .known .view .nonterminals, in-bounds words (ready .known .view .is) .nonterminals);
+    }
 
-      module _ {path′ : List ℕ} {steps : ℕ} (way : PathOf words starts table start A path′ steps) where
-        pub way-before : WayReady before words starts table n path′ steps none-so-far ats lefts
-        way-before = record { start = start; A = A; noted = way; most = total; room = room .room; ready = first-ready }
+    module _ {path : List ℕ} {steps : ℕ} (way : PathOf words starts table start A path steps) where
+      pub way-before : WayReady before words starts table n path steps none-so-far
+      way-before = record { start = start; A = A; noted = way; ready = first-ready }
 
-        module _ {a b x y : List ℕ} {p : Lengths}
-            (first : WayWritten before words starts table n path′ steps a b x y none-so-far p) where
-          so-far : Wrote (tokensOn before (the-tree .1 .above)) (rulesOn before (the-tree .1 .above)) a b x y none-so-far p
-          so-far =
-              let here : SideWritten before words starts table n start (the-tree .1 .A) a b x y none-so-far p =
-              rw is-left at (first start A way) in
-              here (ready .g) (ready .known) (ready .starts-at) (the-tree .1 .above) (the-tree .1 .follows)
+      module _ {a b x y : List ℕ} {p : Lengths}
+          (first : WayWritten before words starts table n path steps a b x y none-so-far p) where
+        so-far : Wrote (tokensOn before (the-tree .1 .above)) (rulesOn before (the-tree .1 .above)) a b x y none-so-far p
+        so-far =
+            let here : SideWritten before words starts table n start (the-tree .1 .A) a b x y none-so-far p =
+            rw is-left at (first start A way) in
+            here (ready .g) (ready .known) (ready .starts-at) (the-tree .1 .above) (the-tree .1 .follows)
 
-          pub target-ready : {ats₁ lefts₁ : List ℕ} {size : ℕ} → size ≡ total → length ats₁ ≡ length ats →
-              length lefts₁ ≡ length lefts → RuleReady words starts table n r size p ats₁ lefts₁
-          target-ready s e f = record {
+        pub target-ready : RuleReady words starts table n r p
+        target-ready = record {
+          g = ready .g;
+          known = ready .known;
+          number = ready .number;
+          few = omega (arith, parts, total-few, so-far .more-tokens, so-far .more-rules);
+        }
+
+        module _ {c v : List ℕ} {q : Lengths} (rule : RuleWritten words starts table n r b c y v p q) where
+          last-ready : SideReady after words starts table n start A q
+          last-ready = rw is-left (record {
             g = ready .g;
             known = ready .known;
-            number = ready .number;
-            most = total;
-            room = room-kept (room .room) e f;
-            within = omega (arith, parts, so-far .more-tokens, so-far .more-rules);
-            sized = omega (arith, parts);
-          }
+            starts-at = ready .starts-at;
+            above = the-tree .1 .above;
+            follows = the-tree .1 .follows;
+            few = omega (arith, parts, total-few, so-far .more-tokens, so-far .more-rules, rule .counted);
+          })
 
-          module _ {c v : List ℕ} {q : Lengths} (rule : RuleWritten words starts table n r b c y v p q) where
-            last-ready : SideReady after words starts table n start A q total
-            last-ready = rw is-left (record {
-              g = ready .g;
-              known = ready .known;
-              starts-at = ready .starts-at;
-              above = the-tree .1 .above;
-              follows = the-tree .1 .follows;
-              within = omega (arith, parts, so-far .more-tokens, so-far .more-rules, rule .counted);
-            })
+          pub way-after : WayReady after words starts table n path steps q
+          way-after = record { start = start; A = A; noted = way; ready = last-ready }
 
-            pub way-after : {ats₁ lefts₁ : List ℕ} → length ats₁ ≡ length ats → length lefts₁ ≡ length lefts →
-                WayReady after words starts table n path′ steps q ats₁ lefts₁
-            way-after e f = record {
-              start = start;
-              A = A;
-              noted = way;
-              most = total;
-              room = room-kept (room .room) e f;
-              ready = last-ready;
-            }
-
-            -- TREE: the sentence and the derivation of the rule's tree are written
-            pub tree-of-written : {d u : List ℕ} {s : Lengths} → WayWritten after words starts table n path′ steps c d v u q s →
-                TreeWritten words starts table n start r a d x u s
-            tree-of-written last =
-                λ g known begin t z.
-                let e = left ∙ viewed-left (known .view) (z .rule) in
-                let head = (rw e at (first start A way)) g known begin (z .above) (z .follows) in
-                let tail = (rw e at (last start A way)) g known begin (z .above) (z .follows) in
-                let middle = rule-written known rule (z .rule) (z .under) (z .opens) in
-                wrote-as (sym (tokens-are z)) (sym (rules-are z)) (and-then head (and-then middle tail))
+          -- TREE: the sentence and the derivation of the rule's tree are written
+          pub tree-of-written : {d u : List ℕ} {s : Lengths} → WayWritten after words starts table n path steps c d v u q s →
+              TreeWritten words starts table n start r a d x u s
+          tree-of-written last =
+              λ g known begin t z.
+              let e = left ∙ viewed-left (known .view) (z .rule) in
+              let head = (rw e at (first start A way)) g known begin (z .above) (z .follows) in
+              let tail = (rw e at (last start A way)) g known begin (z .above) (z .follows) in
+              let middle = rule-written known rule (z .rule) (z .under) (z .opens) in
+              wrote-as (sym (tokens-are z)) (sym (rules-are z)) (and-then head (and-then middle tail))
 
   -- and there is such a tree
   pub some-tree-written : {a b x y : List ℕ} {s : Lengths} → TreeWritten words starts table n start r a b x y s →

@@ -7,6 +7,7 @@ use lib.ListN.{length, getD}
 use Rattle.grammar.specs.Words.{Grammar, R}
 use Rattle.grammar.specs.Refusals.{Accepted, Lowest}
 use Rattle.handout.specs.Next.{Unused}
+use Rattle.handout.specs.declared.tree_lister.Request.{Request}
 use Rattle.handout.specs.Listing.{Known}
 
 -- rows 4 to 8 are passed: the words are a grammar's, its rules stand at these indexes and are so many, and the table is its own
@@ -24,13 +25,9 @@ pub record Asked (words starts table marks : List ℕ) (r : ℕ) : Type 0 where
   pub marked : R g ≤ length marks
   pub target : Lowest (Unused g marks) r
 
--- and n and the start are the grammar's
-pub record Prepared (words table marks starts : List ℕ) (n start r : ℕ) : Type 0 where
-  pub asked : Asked words starts table marks r
-  pub nonterminals : n ≡ asked .g .N
-  pub starts-at : start ≡ asked .g .start
-
--- and total is the rule's
-pub record Totalled (words table marks starts : List ℕ) (n start r total : ℕ) : Type 0 where
-  pub prepared : Prepared words table marks starts n start r
-  pub is : total ≡ getD table (5 * n + r) 0
+-- and the request is for that rule: n and the start are the grammar's, and total is the rule's
+pub record Requested (words starts table marks : List ℕ) (q : Request) : Type 0 where
+  pub asked : Asked words starts table marks (q .target)
+  pub nonterminals : q .n ≡ asked .g .N
+  pub starts-at : q .start ≡ asked .g .start
+  pub total : q .total ≡ getD table (5 * q .n + q .target) 0

@@ -1,10 +1,7 @@
-pub mod Replay
 pub mod Next
 pub mod Given
 pub mod Night
 pub mod Listing
 pub mod MarkSteps
-pub mod Forms
-pub mod ReplaySteps
 pub mod TreeListing
 pub mod Asked

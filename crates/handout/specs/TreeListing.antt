@@ -14,18 +14,14 @@ use Rattle.grammar.specs.Least.{ChosenOpen, TreeOf}
 use Rattle.grammar.specs.Refusals.{Accepted}
 use Rattle.tables.specs.Table.{entry}
 use Rattle.handout.specs.declared.lister.Lengths.{Lengths}
-use Rattle.handout.specs.Listing.{Known, sizesBy, rightOf, Room, RuleListed, Wrote, Written}
+use Rattle.handout.specs.Listing.{Known, sizesBy, rightOf, RuleListed, Wrote, Written}
 
--- what is beside A in its context rule, of such a size, can be listed
-pub record BesideReady (words starts table : List ℕ) (n A size : ℕ) (past : Lengths) (ats lefts : List ℕ) : Type 0 where
-  pub g : Grammar
+-- A is no start, and has a place in its context rule
+pub record Beside (words starts table : List ℕ) (n A : ℕ) (g : Grammar) : Type 0 where
   pub known : Known words starts table n g
   pub leaf : A < n
   pub number : entry table A 3 < R g
   pub place : entry table A 4 < length (rightOf words starts (entry table A 3))
-  pub most : ℕ
-  pub room : Room most ats lefts
-  pub within : past .tokens + past .rules + size ≤ most
 
 -- the symbols before A's place in its context rule, and those after it
 abbrev pub frontOf : List ℕ → List ℕ → List ℕ → ℕ → List ℕ
@@ -34,7 +30,18 @@ frontOf words starts table A = take (entry table A 4) (rightOf words starts (ent
 abbrev pub backOf : List ℕ → List ℕ → List ℕ → ℕ → List ℕ
 backOf words starts table A = drop (suc (entry table A 4)) (rightOf words starts (entry table A 3))
 
--- the number of A's context rule and the symbols before the place are written
+-- the number of A's context rule and the symbols before the place can be listed; and those after it
+pub record FrontReady (words starts table : List ℕ) (n A : ℕ) (past : Lengths) : Type 0 where
+  pub g : Grammar
+  pub beside : Beside words starts table n A g
+  pub few : past .tokens + past .rules + (1 + sizesBy n table (frontOf words starts table A)) ≤ 4096
+
+pub record BackReady (words starts table : List ℕ) (n A : ℕ) (past : Lengths) : Type 0 where
+  pub g : Grammar
+  pub beside : Beside words starts table n A g
+  pub few : past .tokens + past .rules + sizesBy n table (backOf words starts table A) ≤ 4096
+
+-- the number and the symbols before the place are written
 abbrev pub FrontWritten : List ℕ → List ℕ → List ℕ → ℕ → ℕ → List ℕ → List ℕ → List ℕ → List ℕ → Lengths → Lengths → Type 0
 FrontWritten words starts table n A tokens tokens′ rules rules′ past so =
     Written words starts table n (λ g. RuleListed g (entry table A 3) (frontOf words starts table A))
@@ -90,16 +97,16 @@ module _ {g : Grammar} where
   rulesOn after root = []
   rulesOn after (down k r x a) = gapRules after a ++ rulesOn after x
 
--- the context choices lead from the start to A, and there is room for what lies on that side
-pub record SideReady (side : Side) (words starts table : List ℕ) (n start A : ℕ) (past : Lengths) (most : ℕ) : Type 0 where
+-- the context choices lead from the start to A, and what lies on that side is little enough to count
+pub record SideReady (side : Side) (words starts table : List ℕ) (n start A : ℕ) (past : Lengths) : Type 0 where
   pub g : Grammar
   pub known : Known words starts table n g
   pub starts-at : start ≡ g .start
   pub above : Open g A
   pub follows : ChosenOpen plain g above
-  pub within : past .tokens + past .rules + (length (tokensOn side above) + length (rulesOn side above)) ≤ most
+  pub few : past .tokens + past .rules + (length (tokensOn side above) + length (rulesOn side above)) ≤ 4096
 
--- they lead so far, and the path has room for them
+-- they lead so far, and the path has room for as many as there are nonterminals
 pub record ClimbReady (words starts table : List ℕ) (start A : ℕ) (path : List ℕ) : Type 0 where
   pub n : ℕ
   pub g : Grammar
@@ -107,17 +114,15 @@ pub record ClimbReady (words starts table : List ℕ) (start A : ℕ) (path : Li
   pub starts-at : start ≡ g .start
   pub above : Open g A
   pub follows : ChosenOpen plain g above
-  pub short : entry table A 2 ≤ length path
+  pub long : n ≤ length path
 
 -- the path is noted, and what lies on that side of its lowest nonterminal can be listed
-pub record WayReady (side : Side) (words starts table : List ℕ) (n : ℕ) (path : List ℕ) (steps : ℕ) (past : Lengths)
-    (ats lefts : List ℕ) : Type 0 where
+pub record WayReady (side : Side) (words starts table : List ℕ) (n : ℕ) (path : List ℕ) (steps : ℕ) (past : Lengths) :
+    Type 0 where
   pub start : ℕ
   pub A : ℕ
   pub noted : PathOf words starts table start A path steps
-  pub most : ℕ
-  pub room : Room most ats lefts
-  pub ready : SideReady side words starts table n start A past most
+  pub ready : SideReady side words starts table n start A past
 
 -- it is written, by whichever context choices
 abbrev pub SideWritten : Side → List ℕ → List ℕ → List ℕ → ℕ → ℕ → ℕ → List ℕ → List ℕ → List ℕ → List ℕ → Lengths → Lengths →
@@ -140,11 +145,6 @@ pub record TreeReady (words starts table : List ℕ) (n start r : ℕ) : Type 0 
   pub starts-at : start ≡ g .start
   pub accepted : Accepted g
   pub number : r < R g
-
--- path and stack have room for as many numbers as its total says
-pub record TreeRoom (table : List ℕ) (n r : ℕ) (path ats lefts : List ℕ) : Type 0 where
-  pub room : Room (getD table (5 * n + r) 0) ats lefts
-  pub short : getD table (5 * n + r) 0 ≤ length path
 
 abbrev pub none-so-far : Lengths
 none-so-far = record { tokens = 0; rules = 0 }

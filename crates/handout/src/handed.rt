@@ -1,25 +1,17 @@
-// Sentences handed out: the judging of the marks, and what is written. How much room is cleared for the path and the stack of the
-// lister goes by the target's total.
+// Sentences handed out: the judging of the marks, and what is written.
 ghost use mathlib.Core.Path.{_≡_};
 ghost use mathlib.Core.Bool.{true};
 ghost use Prim.Native.Nat.{_≤_};
 ghost use Rattle.handout.specs.Next.{NextPromise};
-ghost use Rattle.handout.specs.Asked.{Tabled, Asked, Totalled};
-ghost use Rattle.handout.specs.TreeListing.{TreeFits, TreeRoom};
+ghost use Rattle.handout.specs.Asked.{Tabled, Asked, Requested};
+ghost use Rattle.handout.specs.TreeListing.{TreeFits};
 use crate::NextAnswer;
 use crate::marks::Found;
 use crate::marks::first_unused;
 use crate::marks::mark_rules;
+use crate::tree_lister::Request;
 use crate::tree_lister::list_tree;
 use grammar::words::word;
-
-// The largest total that is accepted.
-const LIMIT: usize = 4096;
-
-// Smaller totals, for which less room is cleared.
-const FEW: usize = 16;
-
-const SOME: usize = 256;
 
 // With the grammar's own table: 9, Finished, or a sentence.
 pub fn with_table(
@@ -48,7 +40,8 @@ pub fn with_table(
     }
 }
 
-// The sentence of the target.
+// The sentence of the target. Where both buffers have room for as many numbers as its total says, there is room for the sentence and for
+// the derivation; otherwise they are counted first.
 fn hand_out(
     words: &[u16],
     starts: &[u16; 256],
@@ -66,217 +59,16 @@ fn hand_out(
     let n = word(words, 0);
     let start = word(words, 2);
     let total = word(table, 5 * n + target);
-    if total <= FEW {
-        return in_few(
-            words,
-            starts,
-            table,
-            n,
-            start,
-            target,
-            total,
-            marks,
-            sentence,
-            derivation,
-        );
-    }
-    if total <= SOME {
-        return in_some(
-            words,
-            starts,
-            table,
-            n,
-            start,
-            target,
-            total,
-            marks,
-            sentence,
-            derivation,
-        );
-    }
-    in_many(
-        words,
-        starts,
-        table,
+    let request = Request {
         n,
         start,
         target,
         total,
-        marks,
-        sentence,
-        derivation,
-    )
-}
-
-// A small total, with little room to clear.
-fn in_few(
-    words: &[u16],
-    starts: &[u16; 256],
-    table: &[u16],
-    n: usize,
-    start: usize,
-    target: usize,
-    total: usize,
-    marks: &mut [u8],
-    sentence: &mut [u16],
-    derivation: &mut [u16],
-) -> NextAnswer
-    requires { ⌜ Totalled (now words) (now table) (now marks) (now starts) n start target total × (total ≤ 16) ⌝ }
-    ensures { λ r. ⌜ NextPromise (now (words .entry)) (now (table .entry))
-        (record { marks = now (marks .entry); tokens = now (sentence .entry); rules = now (derivation .entry) }) r
-        (record { marks = now (marks .exit); tokens = now (sentence .exit); rules = now (derivation .exit) }) ⌝ }
-{
-    let mut path = [0u16; FEW];
-    let mut ats = [0u16; FEW];
-    let mut lefts = [0u16; FEW];
-    in_room(
-        words,
-        starts,
-        table,
-        n,
-        start,
-        target,
-        total,
-        &mut path,
-        &mut ats,
-        &mut lefts,
-        marks,
-        sentence,
-        derivation,
-    )
-}
-
-// A larger one.
-fn in_some(
-    words: &[u16],
-    starts: &[u16; 256],
-    table: &[u16],
-    n: usize,
-    start: usize,
-    target: usize,
-    total: usize,
-    marks: &mut [u8],
-    sentence: &mut [u16],
-    derivation: &mut [u16],
-) -> NextAnswer
-    requires { ⌜ Totalled (now words) (now table) (now marks) (now starts) n start target total × (total ≤ 256) ⌝ }
-    ensures { λ r. ⌜ NextPromise (now (words .entry)) (now (table .entry))
-        (record { marks = now (marks .entry); tokens = now (sentence .entry); rules = now (derivation .entry) }) r
-        (record { marks = now (marks .exit); tokens = now (sentence .exit); rules = now (derivation .exit) }) ⌝ }
-{
-    let mut path = [0u16; SOME];
-    let mut ats = [0u16; SOME];
-    let mut lefts = [0u16; SOME];
-    in_room(
-        words,
-        starts,
-        table,
-        n,
-        start,
-        target,
-        total,
-        &mut path,
-        &mut ats,
-        &mut lefts,
-        marks,
-        sentence,
-        derivation,
-    )
-}
-
-// Any total. What is larger than the stack the lister lists by calling itself.
-fn in_many(
-    words: &[u16],
-    starts: &[u16; 256],
-    table: &[u16],
-    n: usize,
-    start: usize,
-    target: usize,
-    total: usize,
-    marks: &mut [u8],
-    sentence: &mut [u16],
-    derivation: &mut [u16],
-) -> NextAnswer
-    requires { ⌜ Totalled (now words) (now table) (now marks) (now starts) n start target total × (total ≤ 4096) ⌝ }
-    ensures { λ r. ⌜ NextPromise (now (words .entry)) (now (table .entry))
-        (record { marks = now (marks .entry); tokens = now (sentence .entry); rules = now (derivation .entry) }) r
-        (record { marks = now (marks .exit); tokens = now (sentence .exit); rules = now (derivation .exit) }) ⌝ }
-{
-    let mut path = [0u16; LIMIT];
-    let mut ats = [0u16; SOME];
-    let mut lefts = [0u16; SOME];
-    in_room(
-        words,
-        starts,
-        table,
-        n,
-        start,
-        target,
-        total,
-        &mut path,
-        &mut ats,
-        &mut lefts,
-        marks,
-        sentence,
-        derivation,
-    )
-}
-
-// Where both buffers have room for as many numbers as the total says, there is room for the sentence and for the derivation;
-// otherwise they are counted first.
-fn in_room(
-    words: &[u16],
-    starts: &[u16; 256],
-    table: &[u16],
-    n: usize,
-    start: usize,
-    target: usize,
-    total: usize,
-    path: &mut [u16],
-    ats: &mut [u16],
-    lefts: &mut [u16],
-    marks: &mut [u8],
-    sentence: &mut [u16],
-    derivation: &mut [u16],
-) -> NextAnswer
-    requires { ⌜ Totalled (now words) (now table) (now marks) (now starts) n start target total ×
-        TreeRoom (now table) n target (now path) (now ats) (now lefts) ⌝ }
-    ensures { λ r. ⌜ NextPromise (now (words .entry)) (now (table .entry))
-        (record { marks = now (marks .entry); tokens = now (sentence .entry); rules = now (derivation .entry) }) r
-        (record { marks = now (marks .exit); tokens = now (sentence .exit); rules = now (derivation .exit) }) ⌝ }
-{
+    };
     if both_within(total, sentence.len(), derivation.len()) {
-        return write_out(
-            words,
-            starts,
-            table,
-            n,
-            start,
-            target,
-            total,
-            path,
-            ats,
-            lefts,
-            marks,
-            sentence,
-            derivation,
-        );
+        return write_out(words, starts, table, request, marks, sentence, derivation);
     }
-    count_first(
-        words,
-        starts,
-        table,
-        n,
-        start,
-        target,
-        total,
-        path,
-        ats,
-        lefts,
-        marks,
-        sentence,
-        derivation,
-    )
+    count_first(words, starts, table, request, marks, sentence, derivation)
 }
 
 fn both_within(total: usize, tokens: usize, rules: usize) -> bool
@@ -293,39 +85,19 @@ fn count_first(
     words: &[u16],
     starts: &[u16; 256],
     table: &[u16],
-    n: usize,
-    start: usize,
-    target: usize,
-    total: usize,
-    path: &mut [u16],
-    ats: &mut [u16],
-    lefts: &mut [u16],
+    request: Request,
     marks: &mut [u8],
     sentence: &mut [u16],
     derivation: &mut [u16],
 ) -> NextAnswer
-    requires { ⌜ Totalled (now words) (now table) (now marks) (now starts) n start target total ×
-        TreeRoom (now table) n target (now path) (now ats) (now lefts) ⌝ }
+    requires { ⌜ Requested (now words) (now starts) (now table) (now marks) request ⌝ }
     ensures { λ r. ⌜ NextPromise (now (words .entry)) (now (table .entry))
         (record { marks = now (marks .entry); tokens = now (sentence .entry); rules = now (derivation .entry) }) r
         (record { marks = now (marks .exit); tokens = now (sentence .exit); rules = now (derivation .exit) }) ⌝ }
 {
     let mut no_tokens = [0u16; 0];
     let mut no_rules = [0u16; 0];
-    let counted = list_tree(
-        words,
-        starts,
-        table,
-        n,
-        start,
-        target,
-        total,
-        path,
-        ats,
-        lefts,
-        &mut no_tokens,
-        &mut no_rules,
-    );
+    let counted = list_tree(words, starts, table, request, &mut no_tokens, &mut no_rules);
     let tokens = counted.tokens;
     let numbers = counted.rules;
     if sentence.len() < tokens {
@@ -340,21 +112,7 @@ fn count_first(
             place: numbers,
         };
     }
-    write_out(
-        words,
-        starts,
-        table,
-        n,
-        start,
-        target,
-        total,
-        path,
-        ats,
-        lefts,
-        marks,
-        sentence,
-        derivation,
-    )
+    write_out(words, starts, table, request, marks, sentence, derivation)
 }
 
 // The sentence, the derivation and the marks, for which there is room.
@@ -362,43 +120,24 @@ fn write_out(
     words: &[u16],
     starts: &[u16; 256],
     table: &[u16],
-    n: usize,
-    start: usize,
-    target: usize,
-    total: usize,
-    path: &mut [u16],
-    ats: &mut [u16],
-    lefts: &mut [u16],
+    request: Request,
     marks: &mut [u8],
     sentence: &mut [u16],
     derivation: &mut [u16],
 ) -> NextAnswer
-    requires { ⌜ Totalled (now words) (now table) (now marks) (now starts) n start target total ×
-        (TreeRoom (now table) n target (now path) (now ats) (now lefts) ×
-        TreeFits (now words) (now starts) (now table) n start target (now sentence) (now derivation)) ⌝ }
+    requires { ⌜ Requested (now words) (now starts) (now table) (now marks) request ×
+        TreeFits (now words) (now starts) (now table) (request .n) (request .start) (request .target)
+        (now sentence) (now derivation) ⌝ }
     ensures { λ r. ⌜ NextPromise (now (words .entry)) (now (table .entry))
         (record { marks = now (marks .entry); tokens = now (sentence .entry); rules = now (derivation .entry) }) r
         (record { marks = now (marks .exit); tokens = now (sentence .exit); rules = now (derivation .exit) }) ⌝ }
 {
-    let listed = list_tree(
-        words,
-        starts,
-        table,
-        n,
-        start,
-        target,
-        total,
-        path,
-        ats,
-        lefts,
-        sentence,
-        derivation,
-    );
+    let listed = list_tree(words, starts, table, request, sentence, derivation);
     let tokens = listed.tokens;
     let numbers = listed.rules;
     mark_rules(derivation, numbers, marks);
     NextAnswer::Next {
-        target,
+        target: request.target,
         tokens,
         rules: numbers,
     }

@@ -1,21 +1,28 @@
 // The tree lister: lists the tree of a rule. Context choices lead from the rule's left side up to the start; what lies before the rule
-// is listed from the start down, then the rule, then what lies after it from the rule up. It does not call itself: the nonterminals on
-// the way up are noted on a path.
-ghost use mathlib.Core.Path.{_≡_};
-ghost use Prim.Native.Nat.{_+_, _*_};
-ghost use lib.ListN.{getD};
-ghost use Rattle.handout.specs.Listing.{sizesBy, SymbolsWritten};
-ghost use Rattle.handout.specs.TreeListing.{ClimbReady, PathOf, frontOf, backOf, BesideReady, FrontWritten};
-ghost use Rattle.handout.specs.TreeListing.{before, after, WayReady, WayWritten, TreeReady, TreeRoom, TreeWritten, none-so-far};
+// is listed from the start down, then the rule, then what lies after it from the rule up. The nonterminals on the way up are noted on a
+// path: contexts fall from each to the next, so that none comes twice.
+ghost use Rattle.handout.specs.Listing.{SymbolsWritten};
+ghost use Rattle.handout.specs.TreeListing.{ClimbReady, PathOf, FrontReady, BackReady, FrontWritten, backOf};
+ghost use Rattle.handout.specs.TreeListing.{before, after, WayReady, WayWritten, TreeReady, TreeWritten, none-so-far};
 use crate::cells::narrow;
 use crate::cells::put;
 use crate::cells::wide;
-use crate::forms::Open;
-use crate::forms::pass_tokens;
 use crate::lister::Lengths;
 use crate::lister::list_rule;
-use crate::lister::list_span;
+use crate::lister::list_symbols;
+use crate::lister::right_of;
 use grammar::rules;
+
+// The most nonterminals there are, and so the most on a way up.
+const MOST_NONTERMINALS: usize = 128;
+
+// What is asked for: the sentence of the target, whose total this is; and of the grammar N and the start.
+pub struct Request {
+    pub n: usize,
+    pub start: usize,
+    pub target: usize,
+    pub total: usize,
+}
 
 // Notes the nonterminals from a up to the start, which is not noted, by context choices; how many they are.
 fn climb(
@@ -47,46 +54,31 @@ fn list_front(
     n: usize,
     a: usize,
     past: Lengths,
-    ats: &mut [u16],
-    lefts: &mut [u16],
     sentence: &mut [u16],
     derivation: &mut [u16],
 ) -> Lengths
-    requires { ⌜ BesideReady (now words) (now starts) (now table) n a
-        (1 + sizesBy n (now table) (frontOf (now words) (now starts) (now table) a)) past (now ats) (now lefts) ⌝ }
+    requires { ⌜ FrontReady (now words) (now starts) (now table) n a past ⌝ }
     ensures { λ r. ⌜ FrontWritten (now (words .entry)) (now (starts .entry)) (now (table .entry)) n a
         (now (sentence .entry)) (now (sentence .exit)) (now (derivation .entry)) (now (derivation .exit)) past r ⌝ }
 {
     let rule = table[5 * a + 3];
-    let left = wide(table[5 * a + 4]);
-    let at = rules::index(starts, wide(rule)) + 2;
+    let place = wide(table[5 * a + 4]);
     put(derivation, past.rules, rule);
-    let next = past.rules + 1;
-    let form = Open {
-        at,
-        left,
-        depth: 0,
-        next,
+    let numbered = Lengths {
         tokens: past.tokens,
+        rules: past.rules + 1,
     };
-    let open = pass_tokens(words, n, form, sentence);
-    if 0 < open.left {
-        return list_span(
-            words,
-            starts,
-            table,
-            n,
-            open,
-            ats,
-            lefts,
-            sentence,
-            derivation,
-        );
-    }
-    Lengths {
-        tokens: open.tokens,
-        rules: next,
-    }
+    let symbols = right_of(words, starts, rule);
+    list_symbols(
+        words,
+        starts,
+        table,
+        n,
+        &symbols[..place],
+        numbered,
+        sentence,
+        derivation,
+    )
 }
 
 // Lists what lies before the lowest nonterminal of the path: context by context from the start down.
@@ -97,12 +89,10 @@ fn list_before(
     n: usize,
     path: &[u16],
     steps: usize,
-    ats: &mut [u16],
-    lefts: &mut [u16],
     sentence: &mut [u16],
     derivation: &mut [u16],
 ) -> Lengths
-    requires { ⌜ WayReady before (now words) (now starts) (now table) n (now path) steps none-so-far (now ats) (now lefts) ⌝ }
+    requires { ⌜ WayReady before (now words) (now starts) (now table) n (now path) steps none-so-far ⌝ }
     ensures { λ r. ⌜ WayWritten before (now (words .entry)) (now (starts .entry)) (now (table .entry)) n (now (path .entry)) steps
         (now (sentence .entry)) (now (sentence .exit)) (now (derivation .entry)) (now (derivation .exit)) none-so-far r ⌝ }
 {
@@ -120,8 +110,6 @@ fn list_before(
             n,
             wide(path[i]),
             so,
-            ats,
-            lefts,
             sentence,
             derivation,
         );
@@ -137,38 +125,23 @@ fn list_back(
     n: usize,
     a: usize,
     past: Lengths,
-    ats: &mut [u16],
-    lefts: &mut [u16],
     sentence: &mut [u16],
     derivation: &mut [u16],
 ) -> Lengths
-    requires { ⌜ BesideReady (now words) (now starts) (now table) n a
-        (sizesBy n (now table) (backOf (now words) (now starts) (now table) a)) past (now ats) (now lefts) ⌝ }
+    requires { ⌜ BackReady (now words) (now starts) (now table) n a past ⌝ }
     ensures { λ r. ⌜ SymbolsWritten (now (words .entry)) (now (starts .entry)) (now (table .entry)) n
         (backOf (now (words .entry)) (now (starts .entry)) (now (table .entry)) a) (now (sentence .entry)) (now (sentence .exit))
         (now (derivation .entry)) (now (derivation .exit)) past r ⌝ }
 {
-    let at = rules::index(starts, wide(table[5 * a + 3]));
+    let symbols = right_of(words, starts, table[5 * a + 3]);
     let next = wide(table[5 * a + 4]) + 1;
-    let count = wide(words[at + 1]);
-    if count <= next {
-        return past;
-    }
-    let form = Open {
-        at: at + 2 + next,
-        left: count - next,
-        depth: 0,
-        next: past.rules,
-        tokens: past.tokens,
-    };
-    list_span(
+    list_symbols(
         words,
         starts,
         table,
         n,
-        form,
-        ats,
-        lefts,
+        &symbols[next..],
+        past,
         sentence,
         derivation,
     )
@@ -183,12 +156,10 @@ fn list_after(
     path: &[u16],
     steps: usize,
     past: Lengths,
-    ats: &mut [u16],
-    lefts: &mut [u16],
     sentence: &mut [u16],
     derivation: &mut [u16],
 ) -> Lengths
-    requires { ⌜ WayReady after (now words) (now starts) (now table) n (now path) steps past (now ats) (now lefts) ⌝ }
+    requires { ⌜ WayReady after (now words) (now starts) (now table) n (now path) steps past ⌝ }
     ensures { λ r. ⌜ WayWritten after (now (words .entry)) (now (starts .entry)) (now (table .entry)) n (now (path .entry)) steps
         (now (sentence .entry)) (now (sentence .exit)) (now (derivation .entry)) (now (derivation .exit)) past r ⌝ }
 {
@@ -202,8 +173,6 @@ fn list_after(
             n,
             wide(path[i]),
             so,
-            ats,
-            lefts,
             sentence,
             derivation,
         );
@@ -212,51 +181,33 @@ fn list_after(
     so
 }
 
-// Lists the tree of the target, a rule of this number: what lies before its left side, the rule, and what lies after.
+// Lists the tree of the target: what lies before its left side, the rule, and what lies after.
 pub fn list_tree(
     words: &[u16],
     starts: &[u16; 256],
     table: &[u16],
-    n: usize,
-    start: usize,
-    target: usize,
-    total: usize,
-    path: &mut [u16],
-    ats: &mut [u16],
-    lefts: &mut [u16],
+    request: Request,
     sentence: &mut [u16],
     derivation: &mut [u16],
 ) -> Lengths
-    requires { ⌜ TreeReady (now words) (now starts) (now table) n start target ×
-        (TreeRoom (now table) n target (now path) (now ats) (now lefts) × (total ≡ getD (now table) (5 * n + target) 0)) ⌝ }
-    ensures { λ r. ⌜ TreeWritten (now (words .entry)) (now (starts .entry)) (now (table .entry)) n start target
+    requires { ⌜ TreeReady (now words) (now starts) (now table) (request .n) (request .start) (request .target) ⌝ }
+    ensures { λ r. ⌜ TreeWritten (now (words .entry)) (now (starts .entry)) (now (table .entry))
+        (request .n) (request .start) (request .target)
         (now (sentence .entry)) (now (sentence .exit)) (now (derivation .entry)) (now (derivation .exit)) r ⌝ }
 {
+    let mut path = [0u16; MOST_NONTERMINALS];
+    let n = request.n;
+    let target = request.target;
     let left = wide(words[rules::index(starts, target)]);
-    let steps = climb(words, starts, table, start, left, path);
-    let above = list_before(
-        words,
-        starts,
-        table,
-        n,
-        path,
-        steps,
-        ats,
-        lefts,
-        sentence,
-        derivation,
-    );
-    let rule = narrow(target);
+    let steps = climb(words, starts, table, request.start, left, &mut path);
+    let above = list_before(words, starts, table, n, &path, steps, sentence, derivation);
     let under = list_rule(
         words,
         starts,
         table,
         n,
-        rule,
-        total,
+        narrow(target),
         above,
-        ats,
-        lefts,
         sentence,
         derivation,
     );
@@ -265,11 +216,9 @@ pub fn list_tree(
         starts,
         table,
         n,
-        path,
+        &path,
         steps,
         under,
-        ats,
-        lefts,
         sentence,
         derivation,
     )

@@ -1,8 +1,7 @@
--- `handout::handed::hand_out` meets its contract: the total is the target's, and how much room is cleared goes by it. Assumes
--- nothing.
+-- `handout::handed::hand_out` meets its contract: there is room by the total, or the tree is counted first. Assumes nothing.
 use borrow.Author.Needs.{needs}
 use native.Mathlib.Omega.{arith}
-use Rattle.handout.proofs.NextOutcomes.{total-index, prepared, total-within}
+use Rattle.handout.proofs.NextOutcomes.{total-index, requested, fits-total}
 use Rattle.handout.proofs.handed.hand_out.Statement.{statement}
 use Rattle.handout.proofs.handed.hand_out.Tie as tie
 
@@ -14,24 +13,26 @@ word-requires-2 c κs = search needs
 
 mul-word : tie.Need-mul-word
 mul-word c =
-    let word = c .before in
-    omega (arith, total-index (word .before .before .before .before .before .before .pre) (word .word .ensures))
+    omega (arith, total-index (c .before .before .before .before .before .before .before .pre) (c .before .word .ensures))
 
 add-word : tie.Need-add-word
 add-word c =
-    let word = c .before in
-    omega (arith, total-index (word .before .before .before .before .before .before .pre) (word .word .ensures))
+    omega (arith, total-index (c .before .before .before .before .before .before .before .pre) (c .before .word .ensures))
 
 word-requires-3 : tie.Need-word-requires-3
 word-requires-3 c κs = search needs
 
-in-few-requires : tie.Need-in-few-requires
-in-few-requires c κs =
-    let total = c .before .before .before .before in
-    let word = total .before .before in
-    let asked = word .before .before .before .before .before .before .pre in
-    let p = prepared asked (word .word .ensures) (total .before .word2 .ensures) in
-    (record { prepared = p; is = total .word3 .ensures }, omega (arith, c .before .before .before .if1 .taken))
+both-within-requires : tie.Need-both-within-requires
+both-within-requires c κs = search needs
+
+write-out-requires : tie.Need-write-out-requires
+write-out-requires c κs =
+    let start = c .before .before .before .before .before .before .before .before .before .before .before .before .before in
+    let within = c .before .before .before .before .both-within .ensures (c .before .before .before .if1 .taken) in
+    let total = c .before .before .before .before .before .word3 .ensures in (
+      requested (start .pre) (c .before .before .before .before .before .before .before .word .ensures) (c .before .before .before .before .before .before .word2 .ensures) total,
+      fits-total (start .args .sentence .now) (start .args .derivation .now) total (within .0) (within .1),
+    )
 
 same-length : tie.Need-same-length
 same-length c = search needs
@@ -45,13 +46,9 @@ same-length-3 c = search needs
 returns : tie.Need-returns
 returns c = search needs
 
-in-some-requires : tie.Need-in-some-requires
-in-some-requires c κs =
-    let total = c .before .before .before .before .before in
-    let word = total .before .before in
-    let asked = word .before .before .before .before .before .before .pre in
-    let p = prepared asked (word .word .ensures) (total .before .word2 .ensures) in
-    (record { prepared = p; is = total .word3 .ensures }, omega (arith, c .before .before .before .if2 .taken))
+count-first-requires : tie.Need-count-first-requires
+count-first-requires c κs =
+    requested (c .before .before .before .before .before .before .before .before .before .before .before .before .before .pre) (c .before .before .before .before .before .before .before .word .ensures) (c .before .before .before .before .before .before .word2 .ensures) (c .before .before .before .before .before .word3 .ensures)
 
 same-length-4 : tie.Need-same-length-4
 same-length-4 c = search needs
@@ -65,26 +62,6 @@ same-length-6 c = search needs
 returns-2 : tie.Need-returns-2
 returns-2 c = search needs
 
-in-many-requires : tie.Need-in-many-requires
-in-many-requires c κs =
-    let total = c .before .before .before .before .before in
-    let word = total .before .before in
-    let asked = word .before .before .before .before .before .before .pre in
-    let p = prepared asked (word .word .ensures) (total .before .word2 .ensures) in
-    (record { prepared = p; is = total .word3 .ensures }, total-within p (total .word3 .ensures))
-
-same-length-7 : tie.Need-same-length-7
-same-length-7 c = search needs
-
-same-length-8 : tie.Need-same-length-8
-same-length-8 c = search needs
-
-same-length-9 : tie.Need-same-length-9
-same-length-9 c = search needs
-
-returns-3 : tie.Need-returns-3
-returns-3 c = search needs
-
 pub hand-out-spec : {M : Type 1} → statement M
 hand-out-spec =
     tie.close
@@ -94,18 +71,14 @@ hand-out-spec =
     mul-word
     add-word
     word-requires-3
-    in-few-requires
+    both-within-requires
+    write-out-requires
     same-length
     same-length-2
     same-length-3
     returns
-    in-some-requires
+    count-first-requires
     same-length-4
     same-length-5
     same-length-6
-    returns-2
-    in-many-requires
-    same-length-7
-    same-length-8
-    same-length-9
-    returns-3)
+    returns-2)

@@ -19,18 +19,14 @@ enum-known-target c = search needs
 
 hand-out-requires : tie.Need-hand-out-requires
 hand-out-requires c κs =
-    let found = c .before .before .before .before .before .before in
-    let tabled = found .before .before .before .before .before .before .before .before .pre in
-    asks tabled (found .first-unused .ensures) (c .before .before .before .before .target .given .1) (omega arith)
+    asks (c .before .before .before .before .before .before .before .before .before .before .before .before .before .before .pre) (c .before .before .before .before .before .before .first-unused .ensures) (c .before .before .before .before .target .given .1) (omega arith)
 
 same-length : tie.Need-same-length
 same-length c = search needs
 
 returns-2 : tie.Need-returns-2
 returns-2 c =
-    let found = c .before .before in
-    let tabled = found .before .before .before .before .before .before .before .before .pre in
-    finishes tabled _ (found .first-unused .ensures) (c .enum-told .given .1) (omega arith)
+    finishes (c .before .before .before .before .before .before .before .before .before .before .pre) _ (c .before .before .first-unused .ensures) (c .enum-told .given .1) (omega arith)
 
 same-length-2 : tie.Need-same-length-2
 same-length-2 c = search needs

@@ -6,20 +6,14 @@ use Rattle.handout.proofs.handed.write_out.Statement.{statement}
 use Rattle.handout.proofs.handed.write_out.Tie as tie
 
 list-tree-requires : tie.Need-list-tree-requires
-list-tree-requires c κs =
-    let lent = c .before .before .before .before .before in
-    let (p, (room, fits)) = lent .before .before .before .before .before .before .before .before .pre in
-    (ready (p .prepared), (room, p .is))
+list-tree-requires c κs = ready (c .before .before .before .before .before .before .before .pre .0)
 
 mark-rules-requires : tie.Need-mark-rules-requires
 mark-rules-requires c κs =
-    let listed = c .before .before .before .before .before .before .before .before .before .before .before .before in
-    let lent = listed .before .before .before .before .before .before in
-    let start = lent .before .before .before .before .before .before .before .before in
+    let start = c .before .before .before .before .before .before .before .before .before .before .before .before .before .before in
     let a = start .args in
-    let (p, (room, fits)) = start .pre in
-    let counts = counted (listed .list-tree .ensures) in
-    let within = numbers-within (p .prepared) counts (a .sentence .now) (a .derivation .now) fits in
+    let (p, fits) = start .pre in
+    let within = numbers-within p (counted (c .before .before .before .before .before .before .list-tree .ensures)) (a .sentence .now) (a .derivation .now) fits in
     search needs
 
 same-length : tie.Need-same-length
@@ -31,22 +25,10 @@ same-length-2 c = search needs
 same-length-3 : tie.Need-same-length-3
 same-length-3 c = search needs
 
-same-length-4 : tie.Need-same-length-4
-same-length-4 c = search needs
-
-same-length-5 : tie.Need-same-length-5
-same-length-5 c = search needs
-
-same-length-6 : tie.Need-same-length-6
-same-length-6 c = search needs
-
 returns : tie.Need-returns
 returns c =
-    let marked = c .before .before in
-    let listed = marked .before .before .before .before .before .before .before .before .before .before .before .before .before in
-    let known = listed .before .before .before .before .before .before in
-    let (p, (room, fits)) = known .before .before .before .before .before .before .before .before .pre in
-    hands-out _ (p .prepared) fits (listed .list-tree .ensures) (marked .mark-rules .ensures)
+    let (p, fits) = c .before .before .before .before .before .before .before .before .before .before .before .before .before .before .before .before .before .pre in
+    hands-out _ p fits (c .before .before .before .before .before .before .before .before .before .list-tree .ensures) (c .before .before .mark-rules .ensures)
 
 pub write-out-spec : {M : Type 1} → statement M
 write-out-spec =
@@ -57,7 +39,4 @@ write-out-spec =
     same-length
     same-length-2
     same-length-3
-    same-length-4
-    same-length-5
-    same-length-6
     returns)

@@ -5,9 +5,8 @@ use native.Mathlib.Omega.{arith}
 use mathlib.Core.Path.{_≡_, refl, ap, _∙_}
 use Prim.Native.Nat.{ℕ}
 use lib.ListN.{length, getD}
-use lib.Seq.{lt-length-set}
 use Rattle.tables.specs.Table.{entry}
-use Rattle.handout.proofs.ListerSteps.{few-words, nonterminal-low, table-long, index-is, whole-rule}
+use Rattle.handout.proofs.ListerSteps.{few-words, nonterminal-low, table-long, index-is, stands-within}
 use Rattle.handout.proofs.PathSteps.{OnWay, way-begins, way-on, way-ends, way-low, way-number, way-falls, way-short}
 use Rattle.handout.proofs.tree_lister.climb.Statement.{statement}
 use Rattle.handout.proofs.tree_lister.climb.Tie as tie
@@ -31,19 +30,15 @@ narrow-requires c κs =
 
 mul-path : tie.Need-mul-path Inv-loop μ-loop
 mul-path c =
-    let ready = c .before .before .before .before .before .before .pre in
-    search (needs, way-short (c .before .before .loop .inv .1) ready (c .before .loop-test .taken))
+    search (needs, way-short (c .before .before .loop .inv .1) (c .before .before .before .before .before .before .pre))
 
 slice-write-path : tie.Need-slice-write-path Inv-loop μ-loop
 slice-write-path c =
-    let start = c .before .before .before .before .before .before in
-    let short = way-short (c .before .before .loop .inv .1) (start .pre) (c .before .loop-test .taken) in
-    omega (arith, c .before .before .loop .inv .0)
+    omega (arith, way-short (c .before .before .loop .inv .1) (c .before .before .before .before .before .before .pre), c .before .before .loop .inv .0)
 
 add-steps : tie.Need-add-steps Inv-loop μ-loop
 add-steps c =
-    let start = c .before .before .before .before .before .before in
-    let short = way-short (c .before .before .loop .inv .1) (start .pre) (c .before .loop-test .taken) in
+    let short = way-short (c .before .before .loop .inv .1) (c .before .before .before .before .before .before .pre) in
     search needs
 
 mul-wide : tie.Need-mul-wide Inv-loop μ-loop
@@ -74,63 +69,45 @@ index-requires c κs = search needs
 
 mul-wide-3 : tie.Need-mul-wide-3 Inv-loop μ-loop
 mul-wide-3 c =
-    let at-loop-test = c .before .before .before .before in
-    let at-loop = at-loop-test .before in
-    let start = at-loop .before .before .before .before in
-    let ready = start .pre in
-    let number = way-number (at-loop .loop .inv .1) ready (at-loop-test .loop-test .taken) in
+    let ready = c .before .before .before .before .before .before .before .before .before .pre in
+    let number = way-number (c .before .before .before .before .before .loop .inv .1) ready (c .before .before .before .before .loop-test .taken) in
     let at = index-is (ready .known) number (c .before .wide .ensures) (c .index .ensures) in
-    omega (arith, at, whole-rule (ready .known) number, few-words (ready .known))
+    omega (arith, at, stands-within (ready .known) number, few-words (ready .known))
 
 shared-slice-read-wide-2 : tie.Need-shared-slice-read-wide-2 Inv-loop μ-loop
 shared-slice-read-wide-2 c =
-    let at-loop-test = c .before .before .before .before .before in
-    let at-loop = at-loop-test .before in
-    let start = at-loop .before .before .before .before in
-    let ready = start .pre in
-    let number = way-number (at-loop .loop .inv .1) ready (at-loop-test .loop-test .taken) in
+    let ready = c .before .before .before .before .before .before .before .before .before .before .pre in
+    let number = way-number (c .before .before .before .before .before .before .loop .inv .1) ready (c .before .before .before .before .before .loop-test .taken) in
     let at = index-is (ready .known) number (c .before .before .wide .ensures) (c .before .index .ensures) in
-    omega (arith, at, whole-rule (ready .known) number)
+    omega (arith, at, stands-within (ready .known) number)
 
 wide-requires-2 : tie.Need-wide-requires-2 Inv-loop μ-loop
 wide-requires-2 c κs = search needs
 
 loop-less : tie.Need-loop-less Inv-loop μ-loop
 loop-less c =
-    let at-loop-test = c .before .before .before .before .before .before in
-    let at-loop = at-loop-test .before in
-    let start = at-loop .before .before .before .before in
-    let a = start .args in
-    let ready = start .pre in
-    let way = at-loop .loop .inv .1 in
-    let other = at-loop-test .loop-test .taken in
-    let at = index-is (ready .known) (way-number way ready other) (c .before .before .before .wide .ensures) (c .before .before .index .ensures) in
-    let up = c .wide2 .ensures ∙ ap (λ (j : ℕ). getD (a .words .now) j 0) at in
-    rw up (way-falls way ready other)
+    let ready = c .before .before .before .before .before .before .before .before .before .before .before .pre in
+    let number = way-number (c .before .before .before .before .before .before .before .loop .inv .1) ready (c .before .before .before .before .before .before .loop-test .taken) in
+    let at = index-is (ready .known) number (c .before .before .before .wide .ensures) (c .before .before .index .ensures) in
+    let up = c .wide2 .ensures ∙ ap (λ (j : ℕ). getD (c .before .before .before .before .before .before .before .before .before .before .before .args .words .now) j 0) at in
+    rw up (way-falls (c .before .before .before .before .before .before .before .loop .inv .1) ready (c .before .before .before .before .before .before .loop-test .taken))
 
 loop-again : tie.Need-loop-again Inv-loop μ-loop
 loop-again c =
-    let at-narrow = c .before .before .before .before .before in
-    let at-loop-test = at-narrow .before in
-    let at-loop = at-loop-test .before in
-    let start = at-loop .before .before .before .before in
-    let a = start .args in
-    let ready = start .pre in
-    let inv = at-loop .loop .inv in
-    let way = inv .1 in
-    let other = at-loop-test .loop-test .taken in
-    let at = index-is (ready .known) (way-number way ready other) (c .before .before .before .wide .ensures) (c .before .before .index .ensures) in
-    let up = c .wide2 .ensures ∙ ap (λ (j : ℕ). getD (a .words .now) j 0) at in
-    let short = way-short way ready other in
-    (search needs, way-on way other (omega (arith, inv .0)) (rw (at-narrow .narrow .ensures) refl) up)
+    let ready = c .before .before .before .before .before .before .before .before .before .before .before .pre in
+    let number = way-number (c .before .before .before .before .before .before .before .loop .inv .1) ready (c .before .before .before .before .before .before .loop-test .taken) in
+    let at = index-is (ready .known) number (c .before .before .before .wide .ensures) (c .before .before .index .ensures) in
+    let inv = c .before .before .before .before .before .before .before .loop .inv in
+    let up = c .wide2 .ensures ∙ ap (λ (j : ℕ). getD (c .before .before .before .before .before .before .before .before .before .before .before .args .words .now) j 0) at in
+    let short = way-short (inv .1) ready in
+    (search needs, way-on (inv .1) (c .before .before .before .before .before .before .loop-test .taken) (omega (arith, inv .0)) (rw (c .before .before .before .before .before .narrow .ensures) refl) up)
 
 same-length : tie.Need-same-length Inv-loop μ-loop
 same-length c = search needs
 
 returns : tie.Need-returns Inv-loop μ-loop
 returns c =
-    let inv = c .before .loop .inv in
-    way-ends (inv .1) (c .before .before .before .before .before .pre) (omega (arith, c .loop-test .left)) (inv .0)
+    way-ends (c .before .loop .inv .1) (c .before .before .before .before .before .pre) (omega (arith, c .loop-test .left)) (c .before .loop .inv .0)
 
 pub climb-spec : {M : Type 1} → statement M
 climb-spec =

@@ -1,32 +1,27 @@
--- `handout::tree_lister::list_after` meets its contract: the loop's invariant is `AfterSo`, with the lengths of what is lent. Assumes
--- nothing.
+-- `handout::tree_lister::list_after` meets its contract: the loop's invariant is `AfterSo`, with the lengths of what is lent. Assumes nothing.
 use borrow.Author.Needs.{needs}
 use native.Mathlib.Omega.{arith}
 use mathlib.Core.Path.{_≡_, refl}
 use Prim.Native.Nat.{ℕ, _-_, _≤_}
 use lib.ListN.{length}
 use Rattle.handout.specs.TreeListing.{PathOf}
-use Rattle.handout.proofs.ListerSteps.{room-kept}
 use Rattle.handout.proofs.PathSteps.{AfterSo, after-begins, back-at, after-goes-on, after-ends}
 use Rattle.handout.proofs.tree_lister.list_after.Statement.{statement}
 use Rattle.handout.proofs.tree_lister.list_after.Tie as tie
 
 abbrev Inv-loop : tie.InvT-loop
-Inv-loop words starts table n path steps ats₀ lefts₀ sentence₀ derivation₀ so₀ i₀ ats lefts sentence derivation so i =
-    (i ≤ steps) × (length ats ≡ length ats₀) × (length lefts ≡ length lefts₀) × (length sentence ≡ length sentence₀) ×
-    (length derivation ≡ length derivation₀) ×
+Inv-loop words starts table n path steps sentence₀ derivation₀ so₀ i₀ sentence derivation so i =
+    (i ≤ steps) × (length sentence ≡ length sentence₀) × (length derivation ≡ length derivation₀) ×
     ((start A : ℕ) → PathOf words starts table start A path steps →
     AfterSo words starts table n start A sentence₀ sentence derivation₀ derivation so₀ so i)
 
 abbrev μ-loop : tie.MeasureT-loop
-μ-loop words starts table n path steps ats₀ lefts₀ sentence₀ derivation₀ so₀ i₀ ats lefts sentence derivation so i = steps - i
+μ-loop words starts table n path steps sentence₀ derivation₀ so₀ i₀ sentence derivation so i = steps - i
 
 loop-holds : tie.Need-loop-holds Inv-loop μ-loop
 loop-holds c =
-    let a = c .before .before .before .before .before .before .before .args in (
+    let a = c .before .before .before .before .before .args in (
       omega arith,
-      refl,
-      refl,
       refl,
       refl,
       λ start A way. after-begins (a .words .now) (a .starts .now) (a .table .now) (a .n) start A _ _ _,
@@ -37,23 +32,16 @@ mul-wide c = search needs
 
 shared-slice-read-wide : tie.Need-shared-slice-read-wide Inv-loop μ-loop
 shared-slice-read-wide c =
-    let start = c .before .before .before .before .before .before .before .before .before .before in
-    omega (arith, c .before .loop-test .taken, start .pre .noted .short)
+    omega (arith, c .before .loop-test .taken, c .before .before .before .before .before .before .before .before .pre .noted .short)
 
 wide-requires : tie.Need-wide-requires Inv-loop μ-loop
 wide-requires c κs = search needs
 
 list-back-requires : tie.Need-list-back-requires Inv-loop μ-loop
 list-back-requires c κs =
-    let at-wide = c .before .before .before .before in
-    let at-loop-test = at-wide .before .before in
-    let at-loop = at-loop-test .before in
-    let start = at-loop .before .before .before .before .before .before .before .before in
-    let pre = start .pre in
-    let inv = at-loop .loop .inv in
-    let room = room-kept (pre .room) (inv .1) (inv .2) in
-    back-at (pre .noted) (inv .5 (pre .start) (pre .A) (pre .noted)) (pre .ready) room (at-loop-test .loop-test .taken)
-    (at-wide .wide .ensures)
+    let pre = c .before .before .before .before .before .before .before .before .before .before .before .pre in
+    let inv = c .before .before .before .before .before .loop .inv in
+    back-at (pre .noted) (inv .3 (pre .start) (pre .A) (pre .noted)) (pre .ready) (c .before .before .before .before .loop-test .taken) (c .before .before .wide .ensures)
 
 add-i : tie.Need-add-i Inv-loop μ-loop
 add-i c = search needs
@@ -63,20 +51,12 @@ loop-less c = search needs
 
 loop-again : tie.Need-loop-again Inv-loop μ-loop
 loop-again c =
-    let at-list-back = c .before .before .before .before .before .before .before .before in
-    let at-wide = at-list-back .before .before .before .before .before in
-    let at-loop-test = at-wide .before .before in
-    let at-loop = at-loop-test .before in
-    let inv = at-loop .loop .inv in
-    let test = at-loop-test .loop-test .taken in
-    let back = at-list-back .list-back .ensures in
-    let read = at-wide .wide .ensures in (
+    let inv = c .before .before .before .before .before .before .before .before .before .before .loop .inv in (
       search needs,
       search needs,
       search needs,
-      search needs,
-      search needs,
-      λ start A way. after-goes-on way (inv .5 start A way) test read back,
+      λ start A way.
+          after-goes-on way (inv .3 start A way) (c .before .before .before .before .before .before .before .before .before .loop-test .taken) (c .before .before .before .before .before .before .before .wide .ensures) (c .before .before .before .before .list-back .ensures),
     )
 
 same-length : tie.Need-same-length Inv-loop μ-loop
@@ -85,18 +65,11 @@ same-length c = search needs
 same-length-2 : tie.Need-same-length-2 Inv-loop μ-loop
 same-length-2 c = search needs
 
-same-length-3 : tie.Need-same-length-3 Inv-loop μ-loop
-same-length-3 c = search needs
-
-same-length-4 : tie.Need-same-length-4 Inv-loop μ-loop
-same-length-4 c = search needs
-
 returns : tie.Need-returns Inv-loop μ-loop
 returns c =
-    let start = c .before .before .before .before .before .before .before .before .before in
     let loop = c .before .loop in
-    let all : loop .i ≡ start .args .steps = omega (arith, c .loop-test .left, loop .inv .0) in
-    λ start A way. after-ends way (loop .inv .5 start A way) all
+    let all : loop .i ≡ c .before .before .before .before .before .before .before .args .steps = omega (arith, c .loop-test .left, loop .inv .0) in
+    λ start A way. after-ends way (loop .inv .3 start A way) all
 
 pub list-after-spec : {M : Type 1} → statement M
 list-after-spec =
@@ -114,6 +87,4 @@ list-after-spec =
     loop-again
     same-length
     same-length-2
-    same-length-3
-    same-length-4
     returns)

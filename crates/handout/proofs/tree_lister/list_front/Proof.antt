@@ -1,95 +1,77 @@
--- `handout::tree_lister::list_front` meets its contract: the context rule's number, the tokens in front, and what is open behind them.
--- Assumes nothing.
+-- `handout::tree_lister::list_front` meets its contract: the context rule's number, and the symbols before the place. Assumes nothing.
 use borrow.Author.Needs.{needs}
 use native.Mathlib.Omega.{arith}
-use mathlib.Core.Path.{_≡_, ap}
-use Prim.Native.Nat.{ℕ, _+_}
-use Rattle.handout.proofs.ListerSteps.{few-words, nonterminal-low, table-long, index-is, whole-rule}
-use Rattle.handout.proofs.PartSteps.{passing-ready, passed-ready, passed-then, passed-all, front-listable, front-written}
+use mathlib.Core.Path.{sym}
+use lib.Seq.{length-take-le}
+use Rattle.handout.proofs.Listings.{number-low}
+use Rattle.handout.proofs.ListerSteps.{nonterminal-low, table-long}
+use Rattle.handout.proofs.BesideSteps.{front-within, front-listable, front-written}
 use Rattle.handout.proofs.tree_lister.list_front.Statement.{statement}
 use Rattle.handout.proofs.tree_lister.list_front.Tie as tie
 
 mul-rule : tie.Need-mul-rule
 mul-rule c =
-    let ready = c .before .before .before .before .before .before .pre in
-    omega (arith, nonterminal-low (ready .known) _ (ready .leaf))
+    let ready = c .before .before .before .before .pre in
+    omega (arith, nonterminal-low (ready .beside .known) _ (ready .beside .leaf))
 
 add-rule : tie.Need-add-rule
 add-rule c =
-    let ready = c .before .before .before .before .before .before .pre in
-    omega (arith, nonterminal-low (ready .known) _ (ready .leaf))
+    let ready = c .before .before .before .before .pre in
+    omega (arith, nonterminal-low (ready .beside .known) _ (ready .beside .leaf))
 
 mul-rule-2 : tie.Need-mul-rule-2
 mul-rule-2 c =
-    let ready = c .before .before .before .before .before .before .pre in
-    omega (arith, nonterminal-low (ready .known) _ (ready .leaf))
+    let ready = c .before .before .before .before .pre in
+    omega (arith, nonterminal-low (ready .beside .known) _ (ready .beside .leaf))
 
 shared-slice-read-rule : tie.Need-shared-slice-read-rule
 shared-slice-read-rule c =
-    let ready = c .before .before .before .before .before .before .before .pre in
-    table-long (ready .known) _ 3 (ready .leaf) (omega arith)
+    let ready = c .before .before .before .before .before .pre in
+    table-long (ready .beside .known) _ 3 (ready .beside .leaf) (omega arith)
 
 mul-wide : tie.Need-mul-wide
 mul-wide c =
-    let ready = c .before .before .before .before .before .before .before .pre in
-    omega (arith, nonterminal-low (ready .known) _ (ready .leaf))
+    let ready = c .before .before .before .before .before .pre in
+    omega (arith, nonterminal-low (ready .beside .known) _ (ready .beside .leaf))
 
 add-wide : tie.Need-add-wide
 add-wide c =
-    let ready = c .before .before .before .before .before .before .before .pre in
-    omega (arith, nonterminal-low (ready .known) _ (ready .leaf))
+    let ready = c .before .before .before .before .before .pre in
+    omega (arith, nonterminal-low (ready .beside .known) _ (ready .beside .leaf))
 
 mul-wide-2 : tie.Need-mul-wide-2
 mul-wide-2 c =
-    let ready = c .before .before .before .before .before .before .before .pre in
-    omega (arith, nonterminal-low (ready .known) _ (ready .leaf))
+    let ready = c .before .before .before .before .before .pre in
+    omega (arith, nonterminal-low (ready .beside .known) _ (ready .beside .leaf))
 
 shared-slice-read-wide : tie.Need-shared-slice-read-wide
 shared-slice-read-wide c =
-    let ready = c .before .before .before .before .before .before .before .before .pre in
-    table-long (ready .known) _ 4 (ready .leaf) (omega arith)
+    let ready = c .before .before .before .before .before .before .pre in
+    table-long (ready .beside .known) _ 4 (ready .beside .leaf) (omega arith)
 
 wide-requires : tie.Need-wide-requires
 wide-requires c κs = search needs
 
-wide-requires-2 : tie.Need-wide-requires-2
-wide-requires-2 c κs = search needs
-
-index-requires : tie.Need-index-requires
-index-requires c κs = search needs
-
-add-at : tie.Need-add-at
-add-at c =
-    let ready = c .before .before .before .before .before .before .before .before .before .before .before .pre in
-    let at = index-is (ready .known) (ready .number) (c .before .wide2 .ensures) (c .index .ensures) in
-    omega (arith, at, whole-rule (ready .known) (ready .number), few-words (ready .known))
-
 put-requires : tie.Need-put-requires
 put-requires c κs = search needs
 
-add-next : tie.Need-add-next
-add-next c = search needs
+add-t13 : tie.Need-add-t13
+add-t13 c =
+    omega (arith, c .before .before .before .before .before .before .before .before .before .before .before .before .pre .few)
 
-pass-tokens-requires : tie.Need-pass-tokens-requires
-pass-tokens-requires c κs =
-    let at-index = c .before .before .before .before .before .before in
-    let at-wide2 = at-index .before in
-    let at-wide = at-wide2 .before in
-    let start = at-wide .before .before .before .before .before .before .before .before .before in
-    let ready = start .pre in
-    let at = index-is (ready .known) (ready .number) (at-wide2 .wide2 .ensures) (at-index .index .ensures) in
-    passing-ready (front-listable ready (ap (λ (j : ℕ). j + 2) at) (at-wide .wide .ensures))
+right-of-requires : tie.Need-right-of-requires
+right-of-requires c κs =
+    let ready = c .before .before .before .before .before .before .before .before .before .before .before .before .pre in
+    number-low (ready .beside .known) (ready .beside .number)
 
-list-span-requires : tie.Need-list-span-requires
-list-span-requires c κs =
-    let at-pass-tokens = c .before .before .before .before .before .before .before .before in
-    let at-index = at-pass-tokens .before .before .before .before .before .before .before in
-    let at-wide2 = at-index .before in
-    let at-wide = at-wide2 .before in
-    let start = at-wide .before .before .before .before .before .before .before .before .before in
-    let ready = start .pre in
-    let at = index-is (ready .known) (ready .number) (at-wide2 .wide2 .ensures) (at-index .index .ensures) in
-    passed-ready (at-pass-tokens .pass-tokens .ensures) (front-listable ready (ap (λ (j : ℕ). j + 2) at) (at-wide .wide .ensures))
+slice-aggregate-list-symbols : tie.Need-slice-aggregate-list-symbols
+slice-aggregate-list-symbols c =
+    let fits = front-within (c .before .right-of .ensures) (c .before .before .before .before .before .before .before .before .before .before .before .before .before .before .pre) (c .before .before .before .before .before .before .before .wide .ensures) in
+    sym (length-take-le (c .before .before .before .before .before .before .before .wide .result) _ fits)
+
+list-symbols-requires : tie.Need-list-symbols-requires
+list-symbols-requires c κs =
+    front-listable (c .before .before .before .right-of .ensures) (c .before .before .before .before .before .before .before .before .before .before .before .before .before .before .before .before .pre) (c .before .before .before .before .before .before .before .before .before .wide .ensures)
 
 same-length : tie.Need-same-length
 same-length c = search needs
@@ -97,46 +79,10 @@ same-length c = search needs
 same-length-2 : tie.Need-same-length-2
 same-length-2 c = search needs
 
-same-length-3 : tie.Need-same-length-3
-same-length-3 c = search needs
-
-same-length-4 : tie.Need-same-length-4
-same-length-4 c = search needs
-
 returns : tie.Need-returns
 returns c =
-    let at-list-span = c .before .before .before .before .before .before .before .before in
-    let at-pass-tokens = at-list-span .before .before .before .before .before .before .before .before .before in
-    let at-put = at-pass-tokens .before .before .before .before .before in
-    let at-index = at-put .before .before in
-    let at-wide2 = at-index .before in
-    let at-wide = at-wide2 .before in
-    let start = at-wide .before .before .before .before .before .before .before .before .before in
-    let ready = start .pre in
-    let at = index-is (ready .known) (ready .number) (at-wide2 .wide2 .ensures) (at-index .index .ensures) in
-    front-written ready (ap (λ (j : ℕ). j + 2) at) (at-wide .wide .ensures) (at-put .put .ensures)
-    (passed-then (at-pass-tokens .pass-tokens .ensures) (at-list-span .list-span .ensures))
-
-same-length-5 : tie.Need-same-length-5
-same-length-5 c = search needs
-
-same-length-6 : tie.Need-same-length-6
-same-length-6 c = search needs
-
-returns-2 : tie.Need-returns-2
-returns-2 c =
-    let at-pass-tokens = c .before .before .before .before in
-    let at-put = at-pass-tokens .before .before .before .before .before in
-    let at-index = at-put .before .before in
-    let at-wide2 = at-index .before in
-    let at-wide = at-wide2 .before in
-    let start = at-wide .before .before .before .before .before .before .before .before .before in
-    let ready = start .pre in
-    let at = index-is (ready .known) (ready .number) (at-wide2 .wide2 .ensures) (at-index .index .ensures) in
-    let passed = at-pass-tokens .pass-tokens in
-    let none : passed .result .left ≡ 0 = omega (arith, c .if1 .left) in
-    front-written ready (ap (λ (j : ℕ). j + 2) at) (at-wide .wide .ensures) (at-put .put .ensures)
-    (passed-all (passed .ensures) _ none)
+    front-written (c .before .before .before .before .before .before .before .before .right-of .ensures) (c .before .before .before .before .before .before .before .before .before .before .before .before .before .before .before .before .before .before .before .before .before .pre) (c .before .before .before .before .before .before .before .before .before .before .before .before .before .before .wide .ensures) (c .before .before .before .before .before .before .before .before .before .before .before .before .put .ensures)
+    (c .before .before .before .before .list-symbols .ensures)
 
 pub list-front-spec : {M : Type 1} → statement M
 list-front-spec =
@@ -151,18 +97,11 @@ list-front-spec =
     mul-wide-2
     shared-slice-read-wide
     wide-requires
-    wide-requires-2
-    index-requires
-    add-at
     put-requires
-    add-next
-    pass-tokens-requires
-    list-span-requires
+    add-t13
+    right-of-requires
+    slice-aggregate-list-symbols
+    list-symbols-requires
     same-length
     same-length-2
-    same-length-3
-    same-length-4
-    returns
-    same-length-5
-    same-length-6
-    returns-2)
+    returns)

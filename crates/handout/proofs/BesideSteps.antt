@@ -1,0 +1,63 @@
+-- What listing the symbols beside a place needs and leaves: those before it in a context rule, with the rule's number, and those after
+-- it. Assumes nothing.
+use Prim.Native.Nat.{ℕ, suc, _+_, _-_, _≤_, _<_}
+use native.Mathlib.Numerals.{add-one}
+use native.Mathlib.Omega.{arith}
+use mathlib.Core.List.{List}
+use mathlib.Core.Path.{_≡_, ap, sym, _∙_}
+use lib.ListN.{length, set, take, drop, length-drop}
+use lib.Seq.{take-all, length-take-le}
+use Rattle.tables.specs.Table.{entry}
+use Rattle.handout.specs.declared.lister.Lengths.{Lengths}
+use Rattle.handout.specs.Listing.{sizesBy, rightOf, SymbolsReady, SymbolsWritten}
+use Rattle.handout.specs.TreeListing.{frontOf, backOf, Beside, FrontReady, BackReady, FrontWritten}
+use Rattle.handout.proofs.Listings.{number-low}
+use Rattle.handout.proofs.ListerSteps.{oneRule, numbered}
+
+-- what lies from an index on, as a part of a slice is read
+abbrev pub rest : ℕ → List ℕ → List ℕ
+rest m symbols = take (length symbols - m) (drop m symbols)
+
+rest-is : (m : ℕ) (symbols : List ℕ) → rest m symbols ≡ drop m symbols
+rest-is m symbols = take-all (length symbols - m) (drop m symbols) (omega (arith, length-drop m symbols))
+
+module _ {words starts table : List ℕ} {n A : ℕ} {p : Lengths} {symbols : List ℕ}
+    (is : symbols ≡ rightOf words starts (entry table A 3)) where
+  -- before the place
+  module _ {i : ℕ} (ready : FrontReady words starts table n A p) (ei : i ≡ entry table A 4) where
+    pub front-within : i ≤ length symbols
+    front-within = omega (arith, ready .beside .place, ap length is)
+
+    front-is : take i symbols ≡ frontOf words starts table A
+    front-is = rw (ei, is)
+
+    pub front-listable : SymbolsReady words starts table n (take i symbols) (oneRule p)
+    front-listable = record {
+      g = ready .g;
+      known = ready .beside .known;
+      few = omega (arith, ready .few, ap (sizesBy n table) front-is);
+    }
+
+    pub front-written : {a b x x₁ y : List ℕ} {q : Lengths} → x₁ ≡ set x (p .rules) (entry table A 3) →
+        SymbolsWritten words starts table n (take i symbols) a b x₁ y (oneRule p) q →
+        FrontWritten words starts table n A a b x y p q
+    front-written e h = numbered e (rw front-is at h)
+
+  -- after it
+  module _ {i : ℕ} (ready : BackReady words starts table n A p) (ei : i ≡ entry table A 4) where
+    pub back-within : i + 1 ≤ length symbols
+    back-within = omega (arith, ready .beside .place, ap length is)
+
+    back-is : rest (i + 1) symbols ≡ backOf words starts table A
+    back-is = rest-is (i + 1) symbols ∙ rw (add-one i, ei, is)
+
+    pub back-listable : SymbolsReady words starts table n (rest (i + 1) symbols) p
+    back-listable = record {
+      g = ready .g;
+      known = ready .beside .known;
+      few = omega (arith, ready .few, ap (sizesBy n table) back-is);
+    }
+
+    pub back-written : {a b x y : List ℕ} {q : Lengths} → SymbolsWritten words starts table n (rest (i + 1) symbols) a b x y p q →
+        SymbolsWritten words starts table n (backOf words starts table A) a b x y p q
+    back-written h = rw back-is at h

@@ -1,0 +1,69 @@
+-- `handout::lister::list_symbols` meets its contract. The loop's invariant: the first i symbols are listed. Assumes nothing.
+use borrow.Author.Needs.{needs}
+use Prim.Native.Nat.{_-_}
+use lib.ListN.{length}
+use Rattle.handout.proofs.ListerSteps.{Turn, tokens-kept, rules-kept, turns-begin, turn-goes-on, symbol-of-ready, symbols-listed}
+use Rattle.handout.proofs.lister.list_symbols.Statement.{statement}
+use Rattle.handout.proofs.lister.list_symbols.Tie as tie
+
+abbrev Inv-loop : tie.InvT-loop
+Inv-loop words starts table n symbols sentence₀ derivation₀ so₀ i₀ sentence derivation so i =
+    Turn words starts table n symbols sentence₀ sentence derivation₀ derivation so₀ so i
+
+abbrev μ-loop : tie.MeasureT-loop
+μ-loop words starts table n symbols sentence₀ derivation₀ so₀ i₀ sentence derivation so i = length symbols - i
+
+loop-holds : tie.Need-loop-holds Inv-loop μ-loop
+loop-holds c =
+    let a = c .before .before .before .before .before .args in
+    turns-begin (a .words .now) (a .starts .now) (a .table .now) (a .n) _ _ _ _
+
+mul-list-symbol : tie.Need-mul-list-symbol Inv-loop μ-loop
+mul-list-symbol c = search needs
+
+shared-slice-read-list-symbol : tie.Need-shared-slice-read-list-symbol Inv-loop μ-loop
+shared-slice-read-list-symbol c = search needs
+
+list-symbol-requires : tie.Need-list-symbol-requires Inv-loop μ-loop
+list-symbol-requires c κs =
+    symbol-of-ready (c .before .before .before .before .before .before .before .before .before .before .pre) (c .before .before .before .before .loop .inv) (c .before .before .before .loop-test .taken)
+
+add-i : tie.Need-add-i Inv-loop μ-loop
+add-i c = search needs
+
+loop-less : tie.Need-loop-less Inv-loop μ-loop
+loop-less c = search needs
+
+loop-again : tie.Need-loop-again Inv-loop μ-loop
+loop-again c =
+    turn-goes-on (c .before .before .before .before .before .before .before .before .before .loop .inv) (c .before .before .before .before .before .before .before .before .loop-test .taken) (c .before .before .before .before .list-symbol .ensures)
+
+same-length : tie.Need-same-length Inv-loop μ-loop
+same-length c =
+    let ready = c .before .before .before .before .before .before .before .pre in
+    tokens-kept (c .before .loop .inv .done .listed (ready .g) (ready .known))
+
+same-length-2 : tie.Need-same-length-2 Inv-loop μ-loop
+same-length-2 c =
+    let ready = c .before .before .before .before .before .before .before .pre in
+    rules-kept (c .before .loop .inv .done .listed (ready .g) (ready .known))
+
+returns : tie.Need-returns Inv-loop μ-loop
+returns c = symbols-listed (c .before .loop .inv) (c .loop-test .left)
+
+pub list-symbols-spec : {M : Type 1} → statement M
+list-symbols-spec =
+    tie.close
+    (tie.spec
+    Inv-loop
+    μ-loop
+    loop-holds
+    mul-list-symbol
+    shared-slice-read-list-symbol
+    list-symbol-requires
+    add-i
+    loop-less
+    loop-again
+    same-length
+    same-length-2
+    returns)
