@@ -1,3 +1,4 @@
 pub mod Gates
 pub mod Stores
 pub mod WrittenFromFront
+pub mod Tabulate

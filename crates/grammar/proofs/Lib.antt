@@ -39,6 +39,9 @@ pub mod Decided
 pub mod FigureCertificate
 pub mod FigureTest
 pub mod SampleFigures
+-- What all promises over a grammar begin with: rows 4 to 7.
+pub mod FirstRows
+pub mod FirstRowsMet
 -- Figures that saturate.
 pub mod Cap
 pub mod CappedLeasts

@@ -129,6 +129,10 @@ layout (N ∷ T ∷ []) = test (ltb 0 N && leb N 128) 0 (test (leb T 1024) 1 (fa
 layout (N ∷ T ∷ S ∷ ws) =
     test (ltb 0 N && leb N 128) 0 (test (leb T 1024) 1 (test (ltb S N) 2 (with-head N T S (lefts ws 3 256 N T))))
 
+-- the words are a grammar, of which P holds
+abbrev pub Are : List ℕ → (Grammar → Type 0) → Type 0
+Are ws P = (g : Grammar) × (layout ws ≡ reads g) × P g
+
 -- The place where words break, without a judge. The words begin those of some grammar.
 pub record Viable (us : List ℕ) : Type 0 where
   pub grammar : Grammar

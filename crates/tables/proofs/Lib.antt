@@ -8,13 +8,10 @@ pub mod TableFits
 pub mod TableTests
 pub mod TableComputed
 pub mod TableSamples
-pub mod Tabulate
 pub mod TableExists
 pub mod SizeApart
 pub mod TableWorkedOut
 -- What the promises settle.
-pub mod FirstRows
-pub mod FirstRowsMet
 pub mod TablesSettles
 pub mod TestSettles
 pub mod TablesExact

@@ -7,7 +7,7 @@ use mathlib.Core.Logic.{_↔_}
 use mathlib.Core.List.{List, [], _∷_}
 use lib.ListN.{getD}
 use Rattle.answers.specs.Refusals.{Refusal, broken-layout, no-tree, unreached, oversize}
-use Rattle.grammar.specs.Words.{Grammar, R, layout, reads, faults, InBounds, FaultAt}
+use Rattle.grammar.specs.Words.{Grammar, R, layout, reads, faults, Are, InBounds, FaultAt}
 use Rattle.grammar.specs.Measure.{plain}
 use Rattle.grammar.specs.Refusals.{Lowest, NoTree, AllTrees, Unreached, AllReached, Oversize, AllFit, Accepted}
 use Rattle.grammar.proofs.Certificate.{Leasts}
@@ -33,7 +33,6 @@ use Rattle.tables.proofs.TableComputed as TableComputed
 use Rattle.tables.proofs.TableComputed.{passes?}
 use Rattle.tables.proofs.TableWorkedOut as TableWorkedOut
 use Rattle.tables.proofs.TableWorkedOut.{WorkedOut}
-use Rattle.tables.proofs.FirstRows.{Are}
 use Rattle.tables.proofs.TablesSettles as TablesSettles
 use Rattle.tables.proofs.TablesExact as TablesExact
 use Rattle.tables.proofs.TablesExact.{Given, GivenDone, Written}

@@ -9,8 +9,9 @@ use lib.ListN.{length, getD, set}
 use borrow.Author.Tests.{lt-ltb, le-ltb, eq-eqb, ne-eqb}
 use Rattle.answers.specs.Buffers.{over}
 use Rattle.answers.proofs.WrittenFromFront.{store-next, all-over}
-use Rattle.tables.specs.Written.{tabulate, orElse, fiveWord, storeFive, tableWord, writtenTo}
-use Rattle.tables.proofs.Tabulate.{length-tabulate, getD-tabulate}
+use Rattle.answers.specs.Lists.{tabulate}
+use Rattle.tables.specs.Written.{orElse, fiveWord, storeFive, tableWord, writtenTo}
+use Rattle.answers.proofs.Tabulate.{length-tabulate, getD-tabulate}
 
 -- a number or none
 pub or-none : (q x : ℕ) → q ≡ 65535 → orElse (eqb q 65535) 65535 x ≡ 65535

@@ -15,8 +15,8 @@ use Rattle.grammar.proofs.Certificate.{either}
 use Rattle.grammar.proofs.FigureCertificate.{Figures, AreFigures}
 use Rattle.grammar.proofs.TreeOfExists.{least-exists, chosen-exists, context-exists, choice-exists, total-exists}
 use Rattle.tables.specs.Table.{IsTable, tableLength, entry, totalEntry}
-use Rattle.tables.specs.Written.{tabulate}
-use Rattle.tables.proofs.Tabulate.{length-tabulate, getD-tabulate, Picked, picked}
+use Rattle.answers.specs.Lists.{tabulate}
+use Rattle.answers.proofs.Tabulate.{length-tabulate, getD-tabulate, Picked, picked}
 
 -- FIGURES IN WORDS
 module _ (g : Grammar) (F : Figures) where

@@ -9,7 +9,7 @@ use lib.Seq.{take-at, drop-at}
 use Rattle.answers.specs.Refusals.{Refusal, not-version-one, bad-length, too-many-words, too-short, broken-layout, no-tree}
 use Rattle.answers.specs.Refusals.{unreached, oversize, not-its-table, few-marks, derivation-short, no-derivation, long-list}
 use Rattle.answers.specs.Buffers.{over}
-use Rattle.grammar.specs.Words.{Grammar, layout, faults, FaultAt}
+use Rattle.grammar.specs.Words.{Grammar, layout, faults, Are, FaultAt}
 use Rattle.grammar.specs.Refusals.{Lowest, NoTree, AllTrees, Unreached, AllReached, Oversize, Accepted}
 use Rattle.grammar.proofs.LayoutExact.{in-bounds}
 use Rattle.grammar.proofs.FirstOffence.{layout-faults-exact}
@@ -19,7 +19,6 @@ use Rattle.tables.specs.declared.TableAnswer.{TableAnswer}
 use Rattle.tables.specs.declared.TableAnswer.the-variants.{Done}
 use Rattle.tables.specs.declared.TableTest.the-variants.{Its}
 use Rattle.grammar.proofs.LayoutExact.{reads-unique}
-use Rattle.tables.proofs.FirstRows.{Are}
 use Rattle.tables.proofs.TableExists.{table-exists}
 use Rattle.tables.proofs.TablesSettles.{tables-settles}
 

@@ -17,8 +17,8 @@ use Rattle.tables.specs.Promise.{Tables, refused, row-4, row-5, row-6, r
 use Rattle.tables.specs.declared.TableAnswer.{TableAnswer}
 use Rattle.tables.specs.declared.TableAnswer.the-variants.{Done}
 use Rattle.answers.proofs.Gates.{Gate, stop, go, Settles, gate-settles}
-use Rattle.tables.proofs.FirstRows.{OfWords, fault, grammar, words-settle, FromFive, five-settles}
-use Rattle.tables.proofs.FirstRowsMet.{words-met, five-met}
+use Rattle.grammar.proofs.FirstRows.{OfWords, fault, grammar, words-settle, FromFive, five-settles}
+use Rattle.grammar.proofs.FirstRowsMet.{words-met, five-met}
 use Rattle.tables.proofs.TableIsOne.{table-unique}
 use Rattle.tables.proofs.TableExists.{table-exists}
 

@@ -8,15 +8,15 @@ use mathlib.Core.Logic.{_↔_}
 use mathlib.Core.List.{List, List-discrete}
 use lib.ListN.{take}
 use Rattle.answers.specs.Refusals.{broken-layout, no-tree, unreached, oversize}
-use Rattle.grammar.specs.Words.{Grammar, R, layout, faults, InBounds}
+use Rattle.grammar.specs.Words.{Grammar, R, layout, faults, Are, InBounds}
 use Rattle.grammar.specs.Refusals.{Lowest, NoTree, AllTrees, Unreached, AllReached, Oversize, Accepted}
 use Rattle.tables.specs.Table.{IsTable, HasTable, tableLength}
 use Rattle.tables.specs.Promise.{Tested, refusedTest, test-4, test-5, test-6, test-7, its, not-its}
 use Rattle.tables.specs.declared.TableTest.{TableTest}
 use Rattle.tables.specs.declared.TableTest.the-variants.{Its, NotIts}
 use Rattle.answers.proofs.Gates.{Gate, stop, go, Settles, gate-settles}
-use Rattle.tables.proofs.FirstRows.{Are, OfWords, fault, grammar, words-settle, FromFive, five-settles}
-use Rattle.tables.proofs.FirstRowsMet.{words-met, five-met}
+use Rattle.grammar.proofs.FirstRows.{OfWords, fault, grammar, words-settle, FromFive, five-settles}
+use Rattle.grammar.proofs.FirstRowsMet.{words-met, five-met}
 use Rattle.tables.proofs.TableIsOne.{table-unique}
 use Rattle.tables.proofs.TableExists.{table-exists}
 

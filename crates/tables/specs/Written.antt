@@ -3,15 +3,11 @@
 -- Assumes nothing.
 use Prim.Native.Nat.{ℕ, zero, suc, _+_, _-_, _*_, _/_, _%_, _≤_}
 use mathlib.Core.Bool.{Bool, true, false}
-use mathlib.Core.List.{List, [], _∷_, _++_}
+use mathlib.Core.List.{List, _++_}
 use lib.Dec.{ltb, eqb}
 use lib.ListN.{length, getD, set, take, drop}
+use Rattle.answers.specs.Lists.{tabulate}
 use Rattle.tables.specs.Figures.{figure}
-
--- a list of n words, by index
-unfoldable pub tabulate : (ℕ → ℕ) → ℕ → List ℕ
-tabulate f zero = []
-tabulate f (suc n) = f 0 ∷ tabulate (λ i. f (suc i)) n
 
 -- x where the test passes, else y
 abbrev pub orElse : Bool → ℕ → ℕ → ℕ

@@ -4,7 +4,8 @@ ghost use mathlib.Core.List.{List};
 ghost use Prim.Native.Nat.{ℕ, _+_, _*_, _≤_, _<_};
 ghost use lib.ListN.{length};
 ghost use Rattle.answers.specs.Buffers.{over};
-ghost use Rattle.tables.specs.Written.{contextRule, contextPlace, fiveWord, tableWord, tabulate};
+ghost use Rattle.answers.specs.Lists.{tabulate};
+ghost use Rattle.tables.specs.Written.{contextRule, contextPlace, fiveWord, tableWord};
 ghost use Rattle.tables.specs.Written.{storeFive, Room, writtenTo};
 use crate::figures::NONE;
 

@@ -5,12 +5,12 @@ use mathlib.Core.Path.{_≡_, refl}
 use mathlib.Core.Logic.{_⊎_, inl, inr}
 use mathlib.Core.List.{List}
 use Rattle.answers.specs.Refusals.{Refusal, no-tree, unreached, oversize}
 use Rattle.grammar.specs.Words.{Grammar, Judged, layout, reads, faults, InBounds}
 use Rattle.grammar.specs.Refusals.{Lowest, NoTree, AllTrees, Unreached, AllReached, Oversize, AllFit, Accepted}
 use Rattle.grammar.proofs.LayoutExact.{in-bounds}
 use Rattle.grammar.proofs.Decided.{trees?, all-reached?, all-fit?}
 use Rattle.answers.proofs.Gates.{stop, go}
-use Rattle.tables.proofs.FirstRows.{OfWords, fault, grammar, FromFive, FromSix, FromSeven, not-fit}
+use Rattle.grammar.proofs.FirstRows.{OfWords, fault, grammar, FromFive, FromSix, FromSeven, not-fit}
 
 pub words-met : {Out : Type 0} (words : List ℕ) (broken : ℕ → Out) (Rows : Grammar → Out → Type 0) →
     ((g : Grammar) → InBounds g → (o : Out) × Rows g o) → (o : Out) × OfWords words broken Rows o

@@ -18,10 +18,6 @@ faults-unique ws a b = cc
 
 reads-or-faults : (ws : List ℕ) {g : Grammar} {p : ℕ} → layout ws ≡ reads g → layout ws ≡ faults p → ⊥
 reads-or-faults ws a b = let z : _≡_ {A = ℕ} 0 1 = cc in omega arith
-
--- the words are a grammar, of which P holds
-abbrev pub Are : List ℕ → (Grammar → Type 0) → Type 0
-Are words P = (g : Grammar) × (layout words ≡ reads g) × P g
 
 -- 4: a fault, with its outcome, or a grammar and an outcome of its rows
 pub data OfWords {Out : Type 0} (words : List ℕ) (broken : ℕ → Out) (Rows : Grammar → Out → Type 0) : Out → Type 0 where
