@@ -2,17 +2,17 @@
 use mathlib.Core.Path.{_≡_, refl, ap, sym, _∙_}
 use mathlib.Core.List.{List}
 use Prim.Native.Nat.{ℕ}
+use native.Mathlib.Omega.{arith}
 use lib.ListN.{getD, drop}
-use Rattle.grammar.specs.Words.{Rule, Judged, reads, faults, with-head, lefts, layout}
-use Rattle.grammar.specs.Judge.{answerOf}
+use Rattle.grammar.specs.Words.{Grammar, Rule, Judged, reads, faults, with-head, lefts, layout}
+use Rattle.grammar.specs.Judge.{answerOf, noStarts, startsOf}
 use Rattle.answers.specs.Buffers.{over}
-use Rattle.grammar.specs.Walk.{walkStart}
-use Rattle.grammar.specs.Rules.{startsFrom}
 use Rattle.grammar.specs.JudgeParts.{numberOf, Head, Headed, Tabled, Noted}
 use Rattle.grammar.specs.declared.layout.LayoutAnswer.{LayoutAnswer}
 use Rattle.grammar.specs.declared.layout.LayoutAnswer.the-variants as answer
 use Rattle.grammar.specs.declared.layout.Part.{Part}
 use Rattle.grammar.specs.declared.layout.Part.the-variants as part
+use Rattle.grammar.proofs.RulesByNumber.{starts-are-places}
 
 -- the answer, of a head and the number of rules
 abbrev numbered : ℕ → ℕ → ℕ → Judged ℕ → LayoutAnswer
@@ -35,9 +35,24 @@ module _ (ws : List ℕ) (at N T S : ℕ) (h : Head ws at) (n : N ≡ getD ws 0 
   rules-faulted r p h e = after-head (faults p) (rw e at h)
 
 -- and where the rules stand is noted
-pub rules-noted : (ws before after : List ℕ) (r : Part) (k : ℕ) → Noted ws before r after → r ≡ part.Fit k →
-    after ≡ over (startsFrom 256 ws walkStart) before
-rules-noted ws before after r k h e = rw e at h
+pub rules-noted : (ws after : List ℕ) (N T S : ℕ) (r : Part) (k : ℕ) → Noted ws noStarts r after → r ≡ part.Fit k →
+    answer.Grammar N T S k ≡ answerOf (layout ws) → after ≡ startsOf (layout ws)
+rules-noted ws after N T S r k h e a = go (layout ws) refl a
+  where
+    found : Noted ws noStarts (part.Fit k) after
+    found = rw e at h
+
+    go : (j : Judged Grammar) → layout ws ≡ j → answer.Grammar N T S k ≡ answerOf j → after ≡ startsOf j
+    go (reads g) is a = found ∙ ap (λ (x : List ℕ). over x noStarts) (starts-are-places ws g is)
+    go (faults p) is a = absurd (let z : _≡_ {A = ℕ} 0 1 = cc in omega arith)
+
+-- of a fault there is nothing to note
+pub none-noted : (ws : List ℕ) {p : ℕ} → answer.Fault p ≡ answerOf (layout ws) → noStarts ≡ startsOf (layout ws)
+none-noted ws {p} a = go (layout ws) a
+  where
+    go : (j : Judged Grammar) → answer.Fault p ≡ answerOf j → noStarts ≡ startsOf j
+    go (reads g) a = absurd (let z : _≡_ {A = ℕ} 0 1 = cc in omega arith)
+    go (faults q) a = refl
 
 pub head-faulted : (ws : List ℕ) (r : Part) (p : ℕ) → Headed ws r → r ≡ part.Fault p → answer.Fault p ≡ answerOf (layout ws)
 head-faulted ws r p h e = ap answerOf (sym (rw e at h))

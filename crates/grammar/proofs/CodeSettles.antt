@@ -1,4 +1,4 @@
--- Any two outcomes that a promise of the code allows coincide. Only `read` is lent what it could write. Assumes nothing.
+-- Any two outcomes that a promise of the code allows coincide. None of the functions is lent what it could write. Assumes nothing.
 use mathlib.Core.Path.{_≡_, ap, sym, _∙_}
 use mathlib.Core.List.{List}
 use Prim.Native.Nat.{ℕ, _≤_, _<_}
@@ -7,9 +7,10 @@ use native.Mathlib.Omega.{arith}
 use lib.ListN.{getD}
 use denote.Ref.{RefT}
 use Rattle.grammar.specs.Words.{layout}
-use Rattle.grammar.specs.Judge.{answerOf, startsRead}
+use Rattle.grammar.specs.Judge.{answerOf, startsOf}
 use Rattle.grammar.specs.Walk.{WalkPlace, walkStart, stepAt, walkAt, takenFrom}
 use Rattle.grammar.specs.declared.layout.LayoutAnswer.{LayoutAnswer}
+use Rattle.grammar.specs.declared.layout.Reading.{Reading}
 use Rattle.grammar.specs.declared.walk.Step.{Step}
 use Rattle.grammar.specs.declared.walk.RuleWalk.{RuleWalk}
 use Rattle.grammar.specs.declared.walk.Taken.{Taken}
@@ -30,12 +31,10 @@ walk-next-settles w p q = p ∙ sym q
 pub word-settles : (ws : List ℕ) (i : ℕ) {r s : ℕ} → r ≡ getD ws i 0 → s ≡ getD ws i 0 → r ≡ s
 word-settles ws i p q = p ∙ sym q
 
-pub read-settles : (ws before : List ℕ) {r s : LayoutAnswer} {after after′ : List ℕ} →
-    r ≡ answerOf (layout ws) → after ≡ startsRead ws before r → s ≡ answerOf (layout ws) → after′ ≡ startsRead ws before s →
-    (r ≡ s) × (after ≡ after′)
-read-settles ws before p e q f =
-    let same = p ∙ sym q in
-    (same, e ∙ ap (startsRead ws before) same ∙ sym f)
+-- the whole of what is read
+pub read-settles : (ws : List ℕ) {r s : Reading} → r .answer ≡ answerOf (layout ws) → r .starts ≡ startsOf (layout ws) →
+    s .answer ≡ answerOf (layout ws) → s .starts ≡ startsOf (layout ws) → r ≡ s
+read-settles ws p e q f = λ i. record { answer = (p ∙ sym q) i; starts = (e ∙ sym f) i }
 
 pub index-settles : (starts : List ℕ) (k : ℕ) {r s : ℕ} → (k < 256 → r ≡ getD starts k 0) × (256 ≤ k → r ≡ 0) →
     (k < 256 → s ≡ getD starts k 0) × (256 ≤ k → s ≡ 0) → r ≡ s

@@ -8,21 +8,21 @@ use mathlib.Core.Logic.{_↔_}
 use mathlib.Core.List.{List, [], _∷_, _++_}
 use lib.ListN.{length, getD}
 use denote.Ref.{RefT, now}
-use Rattle.grammar.specs.Words.{Grammar, R, RuleAt, layout, reads, faults, FaultAt, InBounds, words}
+use Rattle.grammar.specs.Words.{Grammar, R, RuleAt, placeOf, layout, reads, faults, FaultAt, InBounds, words}
 use Rattle.grammar.specs.Derivation.{Terminals, Steps, Start, Derives, StopsAt, L, Through, ProductionCoverage}
 use Rattle.grammar.specs.Tree.{Tree, sentence, derivation, Uses, StandsIn, _∈_}
 use Rattle.grammar.specs.Measure.{Cost, plain, treeCost}
 use Rattle.grammar.specs.Least.{Least, Chosen, Context, ContextChoice, Total, TreeOf}
 use Rattle.grammar.specs.Refusals.{AllTrees, AllReached, Reached, NoTree, Unreached, Oversize, AllFit}
-use Rattle.grammar.specs.Judge.{answerOf, startsRead}
+use Rattle.grammar.specs.Judge.{answerOf, startsOf}
 use Rattle.grammar.specs.Walk.{WalkPlace, walkStart, stepAt, walkAt, takenFrom}
-use Rattle.grammar.specs.Rules.{startsFrom, rightAt}
+use Rattle.grammar.specs.Rules.{rightAt}
 use Rattle.grammar.specs.declared.layout.LayoutAnswer.{LayoutAnswer}
 use Rattle.grammar.specs.declared.layout.LayoutAnswer.the-variants as answer
+use Rattle.grammar.specs.declared.layout.Reading.{Reading}
 use Rattle.grammar.specs.declared.walk.Step.{Step}
 use Rattle.grammar.specs.declared.walk.RuleWalk.{RuleWalk}
 use Rattle.grammar.specs.declared.walk.Taken.{Taken}
-use Rattle.answers.specs.Buffers.{over}
 use Rattle.grammar.proofs.LayoutExact as Words
 use Rattle.grammar.proofs.FirstOffence as FirstOffence
 use Rattle.grammar.proofs.WordsFew as WordsFew
@@ -54,7 +54,6 @@ use Rattle.grammar.proofs.AtRest as AtRest
 use Rattle.grammar.proofs.AtRest.{LeastsAtRest, ContextsAtRest}
 use Rattle.grammar.proofs.JudgeExact as JudgeExact
 use Rattle.grammar.proofs.JudgeExact.{WordsOf}
-use Rattle.grammar.proofs.RulePlaces.{placeOf}
 use Rattle.grammar.proofs.WalkInOrder as WalkInOrder
 use Rattle.grammar.proofs.WalkInOrder.{HandsOut, NextHandsOut}
 use Rattle.grammar.proofs.RulesByNumber as RulesByNumber
@@ -206,7 +205,7 @@ pub no-figure-unreached : (c : Cost) (κ : Cap c) (g : Grammar) (v u : ℕ → c
     ContextsAtRest c κ g v u Has → (A : ℕ) → A < g .N → ¬ Has A → Unreached g A
 no-figure-unreached = AtRest.no-figure-unreached
 
--- THE CODE. Each promise settles its answer, and `read` the array that it is lent too.
+-- THE CODE. Each promise settles its answer, that of `read` where the rules stand too.
 pub judge-settles : (ws : List ℕ) {r s : LayoutAnswer} → r ≡ answerOf (layout ws) → s ≡ answerOf (layout ws) → r ≡ s
 judge-settles = CodeSettles.judge-settles
 
@@ -222,9 +221,8 @@ walk-step-settles = CodeSettles.walk-step-settles
 pub walk-next-settles : (w : RuleWalk) {r s : Taken} → r ≡ takenFrom w → s ≡ takenFrom w → r ≡ s
 walk-next-settles = CodeSettles.walk-next-settles
 
-pub read-settles : (ws before : List ℕ) {r s : LayoutAnswer} {after after′ : List ℕ} →
-    r ≡ answerOf (layout ws) → after ≡ startsRead ws before r → s ≡ answerOf (layout ws) → after′ ≡ startsRead ws before s →
-    (r ≡ s) × (after ≡ after′)
+pub read-settles : (ws : List ℕ) {r s : Reading} → r .answer ≡ answerOf (layout ws) → r .starts ≡ startsOf (layout ws) →
+    s .answer ≡ answerOf (layout ws) → s .starts ≡ startsOf (layout ws) → r ≡ s
 read-settles = CodeSettles.read-settles
 
 pub index-settles : (starts : List ℕ) (k : ℕ) {r s : ℕ} → (k < 256 → r ≡ getD starts k 0) × (256 ≤ k → r ≡ 0) →
@@ -242,8 +240,8 @@ pub judge-grammar-exact : (ws : List ℕ) {r : LayoutAnswer} → r ≡ answerOf 
     (r ≡ answer.Grammar N T S n) ↔ WordsOf ws N T S n
 judge-grammar-exact ws e = JudgeExact.judge-grammar-exact ws e
 
--- Over a grammar's words the walk hands out its rules in order and then ends, place by place and by `next`; `read` notes the place
--- of each, and `right` gives the right side of the rule there.
+-- Over a grammar's words the walk hands out its rules in order and then ends, place by place and by `next`; what `read` notes
+-- is the index of the left side of each, and `right` gives the right side of the rule there.
 pub walk-in-order : (ws : List ℕ) (g : Grammar) → layout ws ≡ reads g → HandsOut ws 0 walkStart (g .rules)
 walk-in-order ws g e = WalkInOrder.walk-in-order ws g e
 
@@ -251,9 +249,9 @@ pub walk-next-in-order : (words : RefT (List ℕ)) (g : Grammar) → layout (now
     NextHandsOut 0 (walkAt words walkStart) (g .rules)
 walk-next-in-order words g e = WalkInOrder.walk-next-in-order words g e
 
-pub found-starts : (ws : List ℕ) (g : Grammar) → layout ws ≡ reads g → (before : List ℕ) (k : ℕ) → k < R g →
-    getD (over (startsFrom 256 ws walkStart) before) k 0 ≡ placeOf g k
-found-starts = RulesByNumber.found-starts
+pub left-of-rule : (ws : List ℕ) (g : Grammar) → layout ws ≡ reads g → {k A : ℕ} {w : List ℕ} → RuleAt g k A w →
+    getD ws (placeOf g k) 0 ≡ A
+left-of-rule = RulesByNumber.left-of-rule
 
 pub right-of-rule : (ws : List ℕ) (g : Grammar) → layout ws ≡ reads g → {k A : ℕ} {w : List ℕ} → RuleAt g k A w →
     rightAt ws (placeOf g k) ≡ w

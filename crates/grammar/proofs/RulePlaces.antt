@@ -8,12 +8,8 @@ use native.Mathlib.Omega.{arith}
 use native.Mathlib.Numerals.{add-one}
 use lib.ListN.{length, getD, getElem?, take, drop, length-append}
 use lib.Seq.{take-length, getD-append-seam, getD-append-add, drop-append-add, take-append-seam, getD-take, getD-drop}
-use Rattle.grammar.specs.Words.{Grammar, Rule, _⟶_, R, reads, layout, ruleWords, rulesWords}
+use Rattle.grammar.specs.Words.{Grammar, Rule, _⟶_, R, reads, layout, ruleWords, rulesWords, placeOf}
 use Rattle.grammar.proofs.LayoutExact.{layout-exact}
-
--- the index of rule k's left side
-abbrev pub placeOf : Grammar → ℕ → ℕ
-placeOf g k = 3 + length (rulesWords (take k (g .rules)))
 
 rulesWords-append : (rs ss : List Rule) → rulesWords (rs ++ ss) ≡ rulesWords rs ++ rulesWords ss
 rulesWords-append [] ss = refl

@@ -9,8 +9,11 @@ use native.Mathlib.Decide.{decLt}
 use native.Mathlib.Omega.{arith}
 use lib.ListN.{length, take, drop, getD, List·getD-append}
 use borrow.Author.Tests.{le-leb, lt-leb}
+use lib.Seq.{ext-getD}
 use Rattle.answers.specs.Buffers.{over}
-use Rattle.grammar.specs.Words.{Grammar, R, RuleAt, reads, layout}
+use Rattle.answers.specs.Lists.{tabulate}
+use Rattle.answers.proofs.Tabulate.{length-tabulate, getD-tabulate}
+use Rattle.grammar.specs.Words.{Grammar, R, RuleAt, placeOf, reads, layout}
 use Rattle.grammar.specs.Walk.{WalkPlace, countAt, walkStart, stepAt, spanAt, pastRule}
 use Rattle.grammar.specs.Rules.{startsBy, startsFrom, rightAt}
 use Rattle.grammar.specs.declared.walk.RuleSpan.{RuleSpan}
@@ -18,7 +21,6 @@ use Rattle.grammar.specs.declared.walk.Step.{Step}
 use Rattle.grammar.specs.declared.walk.Step.the-variants.{Rule, End}
 use Rattle.grammar.proofs.LayoutExact.{in-bounds, rule-at}
 use Rattle.grammar.proofs.RulePlaces as places
-use Rattle.grammar.proofs.RulePlaces.{placeOf}
 use Rattle.grammar.proofs.WalkInOrder.{walkBefore, walk-hands-rule, walk-ends}
 use Rattle.grammar.proofs.WalkSteps.{step-past-256, step-cut, step-rule}
 
@@ -103,11 +105,12 @@ module _ (ws : List ℕ) (g : Grammar) (e : layout ws ≡ reads g) where
   pub starts-of-grammar : (k : ℕ) → k < R g → getD (startsFrom 256 ws walkStart) k 0 ≡ placeOf g k
   starts-of-grammar k h = all-places .each k (omega arith) ∙ ap (placeOf g) (zero-add k)
 
-  -- so they stand in an array after read, whatever it held before
-  pub found-starts : (before : List ℕ) (k : ℕ) → k < R g → getD (over (startsFrom 256 ws walkStart) before) k 0 ≡ placeOf g k
-  unfolding over
-  found-starts before k h =
-      List·getD-append (startsFrom 256 ws walkStart) _ 0 k (omega (arith, starts-number)) ∙ starts-of-grammar k h
+  -- so they are the places by number
+  pub starts-are-places : startsFrom 256 ws walkStart ≡ tabulate (placeOf g) (R g)
+  starts-are-places =
+      ext-getD 0 (startsFrom 256 ws walkStart) (tabulate (placeOf g) (R g))
+      (starts-number ∙ sym (length-tabulate (placeOf g) (R g)))
+      (λ k h. let l : k < R g = omega (arith, starts-number) in starts-of-grammar k l ∙ sym (getD-tabulate (placeOf g) (R g) k l))
 
   pub left-of-rule : {k A : ℕ} {w : List ℕ} → RuleAt g k A w → getD ws (placeOf g k) 0 ≡ A
   left-of-rule {k} {A} {w} r = places.left-stands ws g e k A w (r .stands)
@@ -118,6 +121,13 @@ module _ (ws : List ℕ) (g : Grammar) (e : layout ws ≡ reads g) where
       let counted = places.count-stands ws g e k A w (r .stands) in
       let within : at + 2 + countAt ws at ≤ length ws = rw counted (places.rule-within ws g e k A w (r .stands)) in
       right-whole ws at within ∙ rw counted (places.symbols-stand ws g e k A w (r .stands))
+
+-- in the front of an array too
+pub place-in-front : (g : Grammar) (rest : List ℕ) (k : ℕ) → k < R g → getD (over (tabulate (placeOf g) (R g)) rest) k 0 ≡ placeOf g k
+unfolding over
+place-in-front g rest k h =
+    List·getD-append (tabulate (placeOf g) (R g)) _ 0 k (omega (arith, length-tabulate (placeOf g) (R g)))
+    ∙ getD-tabulate (placeOf g) (R g) k h
 
 -- any two outcomes that a promise allows coincide
 pub right-settles : (ws : List ℕ) (at : ℕ) {r s : List ℕ} → r ≡ rightAt ws at → s ≡ rightAt ws at → r ≡ s

@@ -5,12 +5,11 @@ use mathlib.Core.List.{List}
 use Prim.Native.Nat.{ℕ, _≤_, _<_}
 use native.Mathlib.Omega.{arith}
 use lib.ListN.{getD}
-use Rattle.grammar.specs.Words.{Grammar, RuleAt, R, layout, reads}
+use Rattle.grammar.specs.Words.{Grammar, RuleAt, R, placeOf, layout, reads}
 use Rattle.grammar.specs.Rules.{rightAt}
 use Rattle.grammar.proofs.LayoutExact.{in-bounds, rule-at}
 use Rattle.grammar.proofs.RuleNumbers.{rule-number}
 use Rattle.grammar.proofs.RulesByNumber.{left-of-rule, right-of-rule}
-use Rattle.grammar.proofs.RulePlaces.{placeOf}
 
 -- what the functions know of the words: a grammar of n nonterminals and so many rules, which stand at these indexes
 pub record View (ws starts : List ℕ) (n rules : ℕ) (g : Grammar) : Type 0 where

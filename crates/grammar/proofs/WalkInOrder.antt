@@ -10,7 +10,7 @@ use native.Mathlib.Numerals.{add-one}
 use native.Mathlib.Decide.{decLt}
 use lib.ListN.{length, getD, getElem?, take, drop, length-drop}
 use denote.Ref.{RefT, now}
-use Rattle.grammar.specs.Words.{Grammar, Rule, _⟶_, R, RuleAt, reads, layout}
+use Rattle.grammar.specs.Words.{Grammar, Rule, _⟶_, R, placeOf, RuleAt, reads, layout}
 use Rattle.grammar.specs.Walk.{WalkPlace, place, walkStart, countAt, stepAt, pastRule, pastStep, walkAt, takenFrom}
 use Rattle.grammar.specs.declared.walk.RuleSpan.{RuleSpan}
 use Rattle.grammar.specs.declared.walk.Step.{Step}
@@ -18,7 +18,6 @@ use Rattle.grammar.specs.declared.walk.RuleWalk.{RuleWalk}
 use Rattle.grammar.specs.declared.walk.Step.the-variants as step
 use Rattle.grammar.proofs.LayoutExact.{in-bounds, rule-below, rule-at}
 use Rattle.grammar.proofs.RulePlaces as places
-use Rattle.grammar.proofs.RulePlaces.{placeOf}
 use Rattle.grammar.proofs.WalkSteps.{step-past-256, step-cut, step-rule}
 
 -- the walk before rule k

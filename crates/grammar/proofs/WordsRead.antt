@@ -5,40 +5,43 @@ use mathlib.Core.List.{List}
 use Prim.Native.Nat.{ℕ, _≤_, _<_}
 use native.Mathlib.Omega.{arith}
 use lib.ListN.{getD}
-use Rattle.grammar.specs.Words.{Grammar, R, layout, reads, faults}
-use Rattle.grammar.specs.Judge.{answerOf, startsRead}
+use Rattle.grammar.specs.Words.{Grammar, R, placeOf, layout, reads, faults}
+use Rattle.grammar.specs.Judge.{answerOf, noStarts, startsOf}
 use Rattle.grammar.specs.declared.layout.LayoutAnswer.{LayoutAnswer}
 use Rattle.grammar.specs.declared.layout.LayoutAnswer.the-variants as judged
 use Rattle.grammar.proofs.LayoutExact.{layout-exact, in-bounds}
 use Rattle.grammar.proofs.FirstOffence.{layout-faults-exact}
 use Rattle.grammar.proofs.JudgeExact.{judge-fault-exact, judge-grammar-exact}
-use Rattle.grammar.proofs.RulesByNumber.{found-starts}
+use Rattle.grammar.proofs.RulesByNumber.{place-in-front}
 use Rattle.grammar.proofs.RulesInView.{View, Begun}
 
 pub broken-of : (ws : List ℕ) {r : LayoutAnswer} {p : ℕ} → r ≡ answerOf (layout ws) → r ≡ judged.Fault p → layout ws ≡ faults p
 broken-of ws {p = p} e q = layout-faults-exact ws p .1 (judge-fault-exact ws e p .0 q)
 
-pub begun-of : (ws before : List ℕ) {starts : List ℕ} {r : LayoutAnswer} {n t s k : ℕ} → r ≡ answerOf (layout ws) →
-    starts ≡ startsRead ws before r → r ≡ judged.Grammar n t s k → Begun ws starts n s k
-begun-of ws before {starts} {n = n} {t} {s} {k} e noted q =
+-- the starts of words that are known to be a grammar are its rules'
+begin-of : (ws : List ℕ) {starts : List ℕ} {g : Grammar} → layout ws ≡ reads g → starts ≡ startsOf (layout ws) →
+    (k : ℕ) → k < R g → getD starts k 0 ≡ placeOf g k
+begin-of ws {starts} {g} is e k l = ap (λ (x : List ℕ). getD x k 0) (e ∙ ap startsOf is) ∙ place-in-front g noStarts k l
+
+pub starts-of : (ws : List ℕ) {starts : List ℕ} {g : Grammar} → layout ws ≡ reads g → starts ≡ startsOf (layout ws) →
+    View ws starts (g .N) (R g) g
+starts-of ws is e = record { is = is; begin = begin-of ws is e; nonterminals = refl; all-rules = refl }
+
+pub begun-of : (ws : List ℕ) {starts : List ℕ} {r : LayoutAnswer} {n t s k : ℕ} → r ≡ answerOf (layout ws) →
+    starts ≡ startsOf (layout ws) → r ≡ judged.Grammar n t s k → Begun ws starts n s k
+begun-of ws {n = n} {t} {s} {k} e noted q =
     let w = judge-grammar-exact ws e n t s k .0 q in
     let is : layout ws ≡ reads (w .grammar) = layout-exact ws (w .grammar) .1 (w .ok, w .are) in
-    let found = noted ∙ ap (startsRead ws before) q in
     record {
       grammar = w .grammar;
       view = record {
         is = is;
-        begin = λ i l. ap (λ (x : List ℕ). getD x i 0) found ∙ found-starts ws (w .grammar) is before i l;
+        begin = begin-of ws is noted;
         nonterminals = sym (w .nonterminals);
         all-rules = sym (w .rules);
       };
       first = sym (w .start);
     }
-
--- what is noted, of the words alone
-pub noted : (ws before : List ℕ) {starts : List ℕ} {r : LayoutAnswer} → r ≡ answerOf (layout ws) → starts ≡ startsRead ws before r →
-    starts ≡ startsRead ws before (answerOf (layout ws))
-noted ws before e n = n ∙ ap (startsRead ws before) e
 
 -- a grammar's bounds
 pub view-few : {ws starts : List ℕ} {n rules : ℕ} {g : Grammar} → View ws starts n rules g → (n ≤ 128) × (rules ≤ 256)
@@ -47,15 +50,3 @@ view-few {ws} v =
     let n = v .nonterminals in
     let r = v .all-rules in
     (omega (arith, ok .nonterminals), omega (arith, ok .at-most-256))
-
--- where the words are known to be a grammar, the starts are its rules'
-pub starts-of : (ws before : List ℕ) {starts : List ℕ} {g : Grammar} → layout ws ≡ reads g →
-    starts ≡ startsRead ws before (answerOf (layout ws)) → View ws starts (g .N) (R g) g
-starts-of ws before {starts} {g} is e =
-    let found = e ∙ ap (λ x. startsRead ws before (answerOf x)) is in
-    record {
-      is = is;
-      begin = λ i l. ap (λ (x : List ℕ). getD x i 0) found ∙ found-starts ws g is before i l;
-      nonterminals = refl;
-      all-rules = refl;
-    }

@@ -70,6 +70,10 @@ rulesWords (ρ ∷ rs) = ruleWords ρ ++ rulesWords rs
 abbrev pub words : Grammar → List ℕ
 words g = g .N ∷ g .T ∷ g .start ∷ rulesWords (g .rules)
 
+-- the index of the left side of rule k: before it stand N, T, the start and the rules below k
+abbrev pub placeOf : Grammar → ℕ → ℕ
+placeOf g k = 3 + length (rulesWords (take k (g .rules)))
+
 -- What judging words gives: what they are, or the place where they break.
 pub data Judged (A : Type 0) : Type 0 where
   reads : A → Judged A

@@ -2,9 +2,9 @@
 // order in which the words are read, which also notes where each rule stands.
 ghost use mathlib.Core.Path.{_≡_};
 ghost use Prim.Native.Nat.{_≤_, _<_};
-ghost use lib.ListN.{length, replicate};
+ghost use lib.ListN.{length};
 ghost use Rattle.grammar.specs.Words.{layout};
-ghost use Rattle.grammar.specs.Judge.{answerOf, startsRead};
+ghost use Rattle.grammar.specs.Judge.{answerOf, noStarts, startsOf};
 ghost use Rattle.grammar.specs.JudgeParts.{FirstUnfit, Head, Headed, Symbols, SymbolsEnd, Ruled, RuleEnds, Tabled, Noted};
 use crate::walk::FIRST_RULE;
 use crate::walk::MOST_RULES;
@@ -29,6 +29,13 @@ pub enum LayoutAnswer {
     },
 }
 
+// What words are, and where the rules of a grammar stand: the index of each rule's left side, by number, and 0 past the rules. Of
+// words that are no grammar all are 0.
+pub struct Reading {
+    pub answer: LayoutAnswer,
+    pub starts: [u16; 256],
+}
+
 // What a part of the words is: fit, with a number that says where it ends or how many rules it has, or faulted at a place.
 enum Part {
     Fit(usize),
@@ -38,28 +45,29 @@ enum Part {
 pub fn judge(words: &[u16]) -> LayoutAnswer
     ensures { λ r. ⌜ r ≡ answerOf (layout (now (words .entry))) ⌝ }
 {
-    let mut starts = [0u16; 256];
-    read(words, &mut starts)
+    let reading = read(words);
+    reading.answer
 }
 
-// The same, and the index of each rule of a grammar into the front of starts. Where the words are no grammar starts is cleared.
-pub fn read(words: &[u16], starts: &mut [u16; 256]) -> LayoutAnswer
-    ensures { λ r. ⌜ r ≡ answerOf (layout (now (words .entry))) ⌝ }
-    ensures { λ r. ⌜ now (starts .exit) ≡ startsRead (now (words .entry)) (now (starts .entry)) r ⌝ }
+// The same, with where the rules stand.
+pub fn read(words: &[u16]) -> Reading
+    ensures { λ r. ⌜ r .answer ≡ answerOf (layout (now (words .entry))) ⌝ }
+    ensures { λ r. ⌜ r .starts ≡ startsOf (layout (now (words .entry))) ⌝ }
 {
     match judge_head(words) {
-        Part::Fault(place) => fault(place, starts),
-        Part::Fit(at) => read_after_head(words, at, starts),
+        Part::Fault(place) => fault(place),
+        Part::Fit(at) => read_after_head(words, at),
     }
 }
 
 // No grammar.
-fn fault(place: usize, starts: &mut [u16; 256]) -> LayoutAnswer
-    ensures { λ r. ⌜ r ≡ LayoutAnswer.Fault place ⌝ }
-    ensures { λ _. ⌜ now (starts .exit) ≡ replicate 256 0 ⌝ }
+fn fault(place: usize) -> Reading
+    ensures { λ r. ⌜ (r .answer ≡ LayoutAnswer.Fault place) × (r .starts ≡ noStarts) ⌝ }
 {
-    *starts = [0u16; 256];
-    LayoutAnswer::Fault { place }
+    Reading {
+        answer: LayoutAnswer::Fault { place },
+        starts: [0u16; 256],
+    }
 }
 
 // N, T and the start. Fit carries the index past them.
@@ -90,21 +98,25 @@ fn judge_head(words: &[u16]) -> Part
 }
 
 // The rules of words whose head is fit.
-fn read_after_head(words: &[u16], at: usize, starts: &mut [u16; 256]) -> LayoutAnswer
+fn read_after_head(words: &[u16], at: usize) -> Reading
     requires { ⌜ Head (now words) at ⌝ }
-    ensures { λ r. ⌜ r ≡ answerOf (layout (now (words .entry))) ⌝ }
-    ensures { λ r. ⌜ now (starts .exit) ≡ startsRead (now (words .entry)) (now (starts .entry)) r ⌝ }
+    ensures { λ r. ⌜ r .answer ≡ answerOf (layout (now (words .entry))) ⌝ }
+    ensures { λ r. ⌜ r .starts ≡ startsOf (layout (now (words .entry))) ⌝ }
 {
     let nonterminals = word(words, 0);
     let terminals = word(words, 1);
     let start = word(words, 2);
-    match judge_rules(words, nonterminals, terminals, at, starts) {
-        Part::Fault(place) => fault(place, starts),
-        Part::Fit(rules) => LayoutAnswer::Grammar {
-            nonterminals,
-            terminals,
-            start,
-            rules,
+    let mut starts = [0u16; 256];
+    match judge_rules(words, nonterminals, terminals, at, &mut starts) {
+        Part::Fault(place) => fault(place),
+        Part::Fit(rules) => Reading {
+            answer: LayoutAnswer::Grammar {
+                nonterminals,
+                terminals,
+                start,
+                rules,
+            },
+            starts,
         },
     }
 }

@@ -32,8 +32,8 @@ fn run(words: &[u16], table: &mut [u16]) {
 }
 
 fn test(words: &[u16], table: &[u16]) -> TableTest {
-    let mut starts = [0u16; 256];
-    tables::test(words, table, &mut starts)
+    let testing = tables::test(words, table);
+    testing.answer
 }
 
 // The answer, and whether the table is kept past what was written.

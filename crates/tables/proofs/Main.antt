@@ -8,6 +8,7 @@ use mathlib.Core.List.{List, [], _∷_}
 use lib.ListN.{getD}
 use Rattle.answers.specs.Refusals.{Refusal, broken-layout, no-tree, unreached, oversize}
 use Rattle.grammar.specs.Words.{Grammar, R, layout, reads, faults, Are, InBounds, FaultAt}
+use Rattle.grammar.specs.Judge.{startsOf}
 use Rattle.grammar.specs.Measure.{plain}
 use Rattle.grammar.specs.Refusals.{Lowest, NoTree, AllTrees, Unreached, AllReached, Oversize, AllFit, Accepted}
 use Rattle.grammar.proofs.Certificate.{Leasts}
@@ -17,11 +18,12 @@ use Rattle.grammar.proofs.ASampleOfDerivations.{empty-rule}
 use Rattle.grammar.proofs.SampleFigures.{D-table, loop}
 use Rattle.tables.specs.Table.{IsTable, HasTable, totalEntry, entry}
 use Rattle.tables.specs.Dead.{Dead}
-use Rattle.tables.specs.Promise.{Tables, Tested, refused, refusedTest}
+use Rattle.tables.specs.Promise.{Tables, Tested, TestPromise, refused, refusedTest}
 use Rattle.tables.specs.declared.TableAnswer.{TableAnswer}
 use Rattle.tables.specs.declared.TableAnswer.the-variants.{Done}
 use Rattle.tables.specs.declared.TableTest.{TableTest}
 use Rattle.tables.specs.declared.TableTest.the-variants.{Its, NotIts}
+use Rattle.tables.specs.declared.Testing.{Testing}
 use Rattle.tables.proofs.ASampleOfTables as ASampleOfTables
 use Rattle.tables.proofs.TableSamples as TableSamples
 use Rattle.tables.proofs.TableIsOne as TableIsOne
@@ -108,11 +110,11 @@ pub tables-dead : (words : List ℕ) {g : Grammar} → layout words ≡ reads g 
     Tables words before a after → SaysDead a ↔ Dead g
 tables-dead = DeadGrammars.tables-dead
 
--- TEST. Its promise allows exactly one answer for each words and each table.
-pub test-settles : (words table : List ℕ) {a a′ : TableTest} → Tested words table a → Tested words table a′ → a ≡ a′
+-- TEST. Its promise allows exactly one outcome, answer and places of the rules, for each words and each table.
+pub test-settles : (words table : List ℕ) {r r′ : Testing} → TestPromise words table r → TestPromise words table r′ → r ≡ r′
 test-settles = TestSettles.test-settles
 
-pub test-met : (words table : List ℕ) → (a : TableTest) × Tested words table a
+pub test-met : (words table : List ℕ) → (r : Testing) × TestPromise words table r
 test-met = TestSettles.test-met
 
 -- Each answer is given exactly when: 4, 5, 6 and 7 as `tables` has them, and `Own` says that the grammar is accepted and the table is its own.
@@ -139,6 +141,11 @@ test-its = TestSettles.test-its
 pub test-not-its : (words table : List ℕ) {a : TableTest} → Tested words table a →
     (a ≡ NotIts) ↔ Are words (λ g. Accepted g × ¬ HasTable g table)
 test-not-its = TestSettles.test-not-its
+
+-- Beside the answer that the table is its own stand the places of the grammar's rules, as `layout::read` has them.
+pub test-places : (words table : List ℕ) {r : Testing} → TestPromise words table r →
+    (n : ℕ) → r .answer ≡ Its n → r .starts ≡ startsOf (layout words)
+test-places = TestSettles.test-places
 
 -- What `tables` wrote, `test` takes.
 pub tables-tested : {words before after : List ℕ} {a : TableAnswer} → Tables words before a after →

@@ -8,13 +8,14 @@ use mathlib.Core.List.{List}
 use lib.ListN.{length, getD, set}
 use Rattle.answers.specs.Buffers.{over}
 use Rattle.grammar.specs.Words.{Grammar, RuleAt, R, InBounds, layout, reads}
+use Rattle.grammar.specs.Judge.{startsOf}
 use Rattle.grammar.specs.Refusals.{AllFit, Accepted}
 use Rattle.grammar.proofs.LayoutExact.{in-bounds, reads-unique}
 use Rattle.grammar.proofs.RuleNumbers.{rule-number}
 use Rattle.grammar.proofs.CappedTotals.{all-fit-exact}
 use Rattle.tables.specs.Table.{HasTable, tableLength}
 use Rattle.tables.specs.Promise.{Tables, row-4, row-5, row-6, row-7, row-3, done}
-use Rattle.tables.specs.Promise.{Tested, test-4, test-5, test-6, test-7, its, not-its}
+use Rattle.tables.specs.Promise.{Tested, test-4, test-5, test-6, test-7, its, not-its, startsWith, TestPromise}
 use Rattle.tables.specs.Tests.{Says}
 use Rattle.tables.specs.Figures.{figure, FirstAbove, found-none, LeastsDone, ContextsRest, TotalsOf}
 use Rattle.tables.specs.LeastSteps.{LeastsSized}
@@ -26,6 +27,7 @@ use Rattle.tables.specs.declared.TableAnswer.{TableAnswer}
 use Rattle.tables.specs.declared.TableAnswer.the-variants.{Done, Refused}
 use Rattle.tables.specs.declared.TableTest.{TableTest}
 use Rattle.tables.specs.declared.TableTest.the-variants as test
+use Rattle.tables.specs.declared.Testing.{Testing}
 use Rattle.tables.specs.declared.figures.Found.{Found}
 use Rattle.tables.specs.declared.figures.Found.the-variants.{At, Nothing}
 use Rattle.tables.proofs.RowsFound.{leasts-begin, contexts-begin, row-5-found, leasts-found, all-trees, row-6-found}
@@ -212,3 +214,11 @@ module _ {ws starts : List ℕ} {n start rules : ℕ} (p : Begun ws starts n sta
         go (row-6 e t low) is = rw (is .1 (λ z. omega arith)) (test-6 e t low)
         go (row-7 e t u low) is = rw (is .1 (λ z. omega arith)) (test-7 e t u low)
         go (row-3 e t u f l) is = rw (is .0 refl) (accepts e (record { trees = t; reached = u; fit = f }))
+
+-- what `test` hands back, of an answer and where the rules stand
+pub with-places : {ws table starts : List ℕ} {a : TableTest} {r : Testing} → Tested ws table a → starts ≡ startsOf (layout ws) →
+    r .answer ≡ a → r .starts ≡ startsWith a starts → TestPromise ws table r
+with-places {ws} {table} {a = a} t s same stand = record {
+  tested = subst (λ (x : TableTest). Tested ws table x) (sym same) t;
+  stand = stand ∙ ap (startsWith a) s ∙ ap (λ (x : TableTest). startsWith x (startsOf (layout ws))) (sym same);
+}

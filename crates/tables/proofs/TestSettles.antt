@@ -1,5 +1,5 @@
--- The promise of `test` settles its answer: for each words and each table there is exactly one that it allows, and each is given
--- exactly when it should be. Rows 4 to 7 are those of all promises over a grammar; of an accepted one the table is its own or not,
+-- The promise of `test` settles its answer and what stands beside it: for each words and each table there is exactly one outcome
+-- that it allows, and each answer is given exactly when it should be. Rows 4 to 7 are those of all promises over a grammar; of an accepted one the table is its own or not,
 -- which is decided by comparing it with the table that the grammar has. Assumes nothing.
 use Prim.Native.Nat.{ℕ}
 use native.Mathlib.Decide.{ℕ-discrete}
@@ -9,11 +9,13 @@ use mathlib.Core.List.{List, List-discrete}
 use lib.ListN.{take}
 use Rattle.answers.specs.Refusals.{broken-layout, no-tree, unreached, oversize}
 use Rattle.grammar.specs.Words.{Grammar, R, layout, faults, Are, InBounds}
+use Rattle.grammar.specs.Judge.{startsOf}
 use Rattle.grammar.specs.Refusals.{Lowest, NoTree, AllTrees, Unreached, AllReached, Oversize, Accepted}
 use Rattle.tables.specs.Table.{IsTable, HasTable, tableLength}
-use Rattle.tables.specs.Promise.{Tested, refusedTest, test-4, test-5, test-6, test-7, its, not-its}
+use Rattle.tables.specs.Promise.{Tested, TestPromise, startsWith, refusedTest, test-4, test-5, test-6, test-7, its, not-its}
 use Rattle.tables.specs.declared.TableTest.{TableTest}
 use Rattle.tables.specs.declared.TableTest.the-variants.{Its, NotIts}
+use Rattle.tables.specs.declared.Testing.{Testing}
 use Rattle.answers.proofs.Gates.{Gate, stop, go, Settles, gate-settles}
 use Rattle.grammar.proofs.FirstRows.{OfWords, fault, grammar, words-settle, FromFive, five-settles}
 use Rattle.grammar.proofs.FirstRowsMet.{words-met, five-met}
@@ -56,8 +58,14 @@ module _ (words table : List ℕ) where
   rows (not-its e a n) = grammar e (go (a .trees) (go (a .reached) (go (a .fit) (go n refl))))
 
   -- AT MOST ONE
-  pub test-settles : {a a′ : TableTest} → Tested words table a → Tested words table a′ → a ≡ a′
-  test-settles {a} {a′} x y = words-settle words _ Rows rows-settle a a′ (rows x) (rows y)
+  pub answer-settles : {a a′ : TableTest} → Tested words table a → Tested words table a′ → a ≡ a′
+  answer-settles {a} {a′} x y = words-settle words _ Rows rows-settle a a′ (rows x) (rows y)
+
+  pub test-settles : {r r′ : Testing} → TestPromise words table r → TestPromise words table r′ → r ≡ r′
+  test-settles x y =
+      let same = answer-settles (x .tested) (y .tested) in
+      let beside = x .stand ∙ ap (λ (a : TableTest). startsWith a (startsOf (layout words))) same ∙ sym (y .stand) in
+      λ i. record { answer = same i; starts = beside i }
 
   row : {a : TableTest} → OfWords words (λ p. refusedTest (broken-layout p)) Rows a → Tested words table a
   row (fault e) = test-4 e
@@ -72,10 +80,16 @@ module _ (words table : List ℕ) where
   table-met g (no n) = (NotIts, go n refl)
 
   -- AT LEAST ONE
-  pub test-met : (a : TableTest) × Tested words table a
-  test-met =
+  pub answer-met : (a : TableTest) × Tested words table a
+  answer-met =
       let (o, z) = words-met words _ Rows (λ g ok. five-met refusedTest g ok (FromTable g) (λ a. table-met g (tabled? table g ok a))) in
       (o, row z)
+
+  pub test-met : (r : Testing) × TestPromise words table r
+  test-met =
+      let (a, z) = answer-met in
+      let r : Testing = record { answer = a; starts = startsWith a (startsOf (layout words)) } in
+      (r, record { tested = z; stand = refl })
 
   -- EXACTLY WHEN, of each answer
   only-4 : {q : ℕ} → Tested words table (refusedTest (broken-layout q)) → layout words ≡ faults q
@@ -97,22 +111,26 @@ module _ (words table : List ℕ) where
   only-not-its : Tested words table NotIts → Are words (λ g. Accepted g × ¬ HasTable g table)
   only-not-its (not-its {g = g} e a n) = (g, e, (a, n))
 
+  -- beside the answer that it is its own stand the places of the rules
+  pub test-places : {r : Testing} → TestPromise words table r → (n : ℕ) → r .answer ≡ Its n → r .starts ≡ startsOf (layout words)
+  test-places t n e = t .stand ∙ ap (λ (a : TableTest). startsWith a (startsOf (layout words))) e
+
   module _ {a : TableTest} (t : Tested words table a) where
     pub test-broken : (q : ℕ) → (a ≡ refusedTest (broken-layout q)) ↔ (layout words ≡ faults q)
-    test-broken q = (λ e. only-4 (rw e at t), λ h. test-settles t (test-4 h))
+    test-broken q = (λ e. only-4 (rw e at t), λ h. answer-settles t (test-4 h))
 
     pub test-no-tree : (A : ℕ) → (a ≡ refusedTest (no-tree A)) ↔ Are words (λ g. Lowest (NoTree g) A)
-    test-no-tree A = (λ e. only-5 (rw e at t), λ (g, e, low). test-settles t (test-5 e low))
+    test-no-tree A = (λ e. only-5 (rw e at t), λ (g, e, low). answer-settles t (test-5 e low))
 
     pub test-unreached : (A : ℕ) → (a ≡ refusedTest (unreached A)) ↔ Are words (λ g. AllTrees g × Lowest (Unreached g) A)
-    test-unreached A = (λ e. only-6 (rw e at t), λ (g, e, (u, low)). test-settles t (test-6 e u low))
+    test-unreached A = (λ e. only-6 (rw e at t), λ (g, e, (u, low)). answer-settles t (test-6 e u low))
 
     pub test-oversize : (r : ℕ) → (a ≡ refusedTest (oversize r)) ↔
         Are words (λ g. AllTrees g × AllReached g × Lowest (Oversize g) r)
-    test-oversize r = (λ e. only-7 (rw e at t), λ (g, e, (u, v, low)). test-settles t (test-7 e u v low))
+    test-oversize r = (λ e. only-7 (rw e at t), λ (g, e, (u, v, low)). answer-settles t (test-7 e u v low))
 
     pub test-its : (n : ℕ) → (a ≡ Its n) ↔ Are words (λ g. (n ≡ R g) × Own table g)
-    test-its n = (λ e. only-its (rw e at t), λ (g, e, (same, (a, h))). rw same (test-settles t (its e a h)))
+    test-its n = (λ e. only-its (rw e at t), λ (g, e, (same, (a, h))). rw same (answer-settles t (its e a h)))
 
     pub test-not-its : (a ≡ NotIts) ↔ Are words (λ g. Accepted g × ¬ HasTable g table)
-    test-not-its = (λ e. only-not-its (rw e at t), λ (g, e, (a, n)). test-settles t (not-its e a n))
+    test-not-its = (λ e. only-not-its (rw e at t), λ (g, e, (a, n)). answer-settles t (not-its e a n))

@@ -8,12 +8,14 @@ use lib.ListN.{length}
 use Rattle.answers.specs.Refusals.{Refusal, number, place, broken-layout, no-tree, unreached, oversize, too-short}
 use Rattle.answers.specs.Buffers.{over}
 use Rattle.grammar.specs.Words.{Grammar, R, layout, reads, faults}
+use Rattle.grammar.specs.Judge.{noStarts, startsOf}
 use Rattle.grammar.specs.Refusals.{Lowest, NoTree, AllTrees, Unreached, AllReached, Oversize, AllFit, Accepted}
 use Rattle.tables.specs.Table.{IsTable, HasTable, tableLength}
 use Rattle.tables.specs.declared.TableAnswer.{TableAnswer}
 use Rattle.tables.specs.declared.TableAnswer.the-variants.{Done, Refused}
 use Rattle.tables.specs.declared.TableTest.{TableTest}
 use Rattle.tables.specs.declared.TableTest.the-variants as test
+use Rattle.tables.specs.declared.Testing.{Testing}
 
 abbrev pub refused : Refusal → TableAnswer
 refused r = Refused (number r) (place r)
@@ -33,7 +35,7 @@ pub data Tables (words before : List ℕ) : TableAnswer → List ℕ → Type 0 
       tableLength g ≤ length before → IsTable g table →
       Tables words before (Done (tableLength g)) (over table before)
 
--- What `test` promises: whether the first 5N + R words of a lent table are there and are this grammar's table, where 4, 5, 6 and 7
+-- What `test` answers: whether the first 5N + R words of a lent table are there and are this grammar's table, where 4, 5, 6 and 7
 -- accept the grammar; else their refusal, as `tables` has it.
 abbrev pub refusedTest : Refusal → TableTest
 refusedTest r = test.Refused (number r) (place r)
@@ -51,3 +53,14 @@ pub data Tested (words table : List ℕ) : TableTest → Type 0 where
       Tested words table (test.Its (R g))
   not-its : {g : Grammar} → layout words ≡ reads g → Accepted g → ¬ HasTable g table →
       Tested words table test.NotIts
+
+-- where the rules stand, with the answer that the table is the grammar's own; with any other 0 throughout
+abbrev pub startsWith : TableTest → List ℕ → List ℕ
+startsWith (test.Its n) starts = starts
+startsWith test.NotIts starts = noStarts
+startsWith (test.Refused k p) starts = noStarts
+
+-- the answer, and beside it where the rules stand
+pub record TestPromise (words table : List ℕ) (r : Testing) : Type 0 where
+  pub tested : Tested words table (r .answer)
+  pub stand : r .starts ≡ startsWith (r .answer) (startsOf (layout words))

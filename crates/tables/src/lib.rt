@@ -11,9 +11,7 @@ mod worked_out;
 mod written;
 
 ghost use mathlib.Core.Path.{_≡_};
-ghost use Rattle.grammar.specs.Words.{layout};
-ghost use Rattle.grammar.specs.Judge.{answerOf, startsRead};
-ghost use Rattle.tables.specs.Promise.{Tables, Tested};
+ghost use Rattle.tables.specs.Promise.{Tables, Tested, startsWith, TestPromise};
 ghost use Rattle.grammar.proofs.RulesInView.{Begun};
 use grammar::layout;
 use grammar::layout::LayoutAnswer;
@@ -32,12 +30,21 @@ pub enum TableTest {
     Refused { number: u16, place: usize },
 }
 
+// What `test` found, and where the rules stand if the table is that of the grammar: the index of each rule's left side, by number,
+// and 0 past the rules. With any other answer all are 0.
+pub struct Testing {
+    pub answer: TableTest,
+    pub starts: [u16; 256],
+}
+
 // Writes the table of the grammar that the words are into the front of table. Done carries how many words were written.
 pub fn tables(words: &[u16], table: &mut [u16]) -> TableAnswer
     ensures { λ r. ⌜ Tables (now (words .entry)) (now (table .entry)) r (now (table .exit)) ⌝ }
 {
-    let mut starts = [0u16; 256];
-    match layout::read(words, &mut starts) {
+    let reading = layout::read(words);
+    let starts = reading.starts;
+    let answer = reading.answer;
+    match answer {
         LayoutAnswer::Fault { place } => TableAnswer::Refused {
             number: answers::BROKEN_LAYOUT,
             place,
@@ -51,27 +58,52 @@ pub fn tables(words: &[u16], table: &mut [u16]) -> TableAnswer
     }
 }
 
-// Whether the first words of table are the table of the grammar that the words are. What `layout::read` leaves in starts stays there.
-pub fn test(words: &[u16], table: &[u16], starts: &mut [u16; 256]) -> TableTest
-    ensures { λ r. ⌜ Tested (now (words .entry)) (now (table .entry)) r ⌝ }
-    ensures { λ _. ⌜ now (starts .exit) ≡
-        startsRead (now (words .entry)) (now (starts .entry)) (answerOf (layout (now (words .entry)))) ⌝ }
+// Whether the first words of table are the table of the grammar that the words are.
+pub fn test(words: &[u16], table: &[u16]) -> Testing
+    ensures { λ r. ⌜ TestPromise (now (words .entry)) (now (table .entry)) r ⌝ }
 {
-    match layout::read(words, starts) {
-        LayoutAnswer::Fault { place } => TableTest::Refused {
-            number: answers::BROKEN_LAYOUT,
-            place,
+    let reading = layout::read(words);
+    let starts = reading.starts;
+    let answer = reading.answer;
+    match answer {
+        LayoutAnswer::Fault { place } => Testing {
+            answer: TableTest::Refused {
+                number: answers::BROKEN_LAYOUT,
+                place,
+            },
+            starts: [0u16; 256],
         },
         LayoutAnswer::Grammar {
             nonterminals,
             terminals: _,
             start,
             rules,
-        } => test_grammar(words, starts, nonterminals, start, rules, table),
+        } => with_starts(
+            test_grammar(words, &starts, nonterminals, start, rules, table),
+            starts,
+        ),
     }
 }
 
-// The same of words that are a grammar. Only where the table is not its own is one worked out, for 5, 6 and 7, and with no room to
+// An answer, with where the rules stand if the table is the grammar's own.
+fn with_starts(answer: TableTest, starts: [u16; 256]) -> Testing
+    ensures { λ r. ⌜ (r .answer ≡ answer) × (r .starts ≡ startsWith answer starts) ⌝ }
+{
+    let stand = match answer {
+        TableTest::Its { rules: _ } => starts,
+        TableTest::NotIts => [0u16; 256],
+        TableTest::Refused {
+            number: _,
+            place: _,
+        } => [0u16; 256],
+    };
+    Testing {
+        answer,
+        starts: stand,
+    }
+}
+
+// The answer of words that are a grammar. Only where the table is not its own is one worked out, for 5, 6 and 7, and with no room to
 // write it: 3 says that they are passed.
 fn test_grammar(
     words: &[u16],

@@ -1,6 +1,7 @@
 -- `grammar::layout::read` meets its contract: a fault of the head is the layout's, and else the rules decide.
 -- Assumes nothing.
-use Rattle.grammar.proofs.AnswerJudged.{head-faulted, head-passed}
+use mathlib.Core.Path.{_∙_}
+use Rattle.grammar.proofs.AnswerJudged.{head-faulted, head-passed, none-noted}
 use borrow.Author.Needs.{needs}
 use Rattle.grammar.proofs.layout.read.Statement.{statement}
 use Rattle.grammar.proofs.layout.read.Tie as tie
@@ -19,18 +20,18 @@ enum-known-at c = search needs
 
 read-after-head-requires : tie.Need-read-after-head-requires
 read-after-head-requires c κs =
-    let h = c .before .before .before .before .judge-head in
-    let ws = c .before .before .before .before .before .before .args .words .now in
-    let at = c .before .before .at in
+    let h = c .before .before .before .judge-head in
+    let ws = c .before .before .before .before .before .args .words .now in
+    let at = c .before .at in
     head-passed ws (h .result) (at .given .0 .0) (h .ensures) (at .given .1)
 
 returns : tie.Need-returns
 returns c =
-    let h = c .before .before .before .before .before .judge-head in
-    let ws = c .before .before .before .before .before .before .before .args .words .now in
-    let place = c .before .before .before .place in
+    let h = c .before .before .before .before .judge-head in
+    let ws = c .before .before .before .before .before .before .args .words .now in
+    let place = c .before .before .place in
     let e = head-faulted ws (h .result) (place .given .0 .0) (h .ensures) (place .given .1) in
-    rw (c .fault .ensures .0) (e, c .fault .ensures .1)
+    (c .fault .ensures .0 ∙ e, c .fault .ensures .1 ∙ none-noted ws e)
 
 returns-2 : tie.Need-returns-2
 returns-2 c = search needs
