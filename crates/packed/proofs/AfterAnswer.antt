@@ -6,12 +6,12 @@ use Prim.Native.Nat.{ℕ, _≤_}
 use lib.ListN.{length}
 use Rattle.packed.specs.declared.FileAnswer.{FileAnswer}
 use Rattle.packed.specs.declared.FileAnswer.the-variants.{Done, Refused}
-use Rattle.packed.specs.File.{fileOf, wordsIn}
+use Rattle.packed.specs.File.{fileOf, wordsIn, GoodFile}
 use Rattle.packed.specs.Promise.{Unpacked, Packed}
 use Rattle.packed.specs.Promise.Unpacked.{wrong-version, wrong-length, no-room-for-words, all-words}
 use Rattle.packed.specs.Promise.Packed.{too-many, no-room-for-file, whole-file}
 use Rattle.answers.proofs.WrittenFromFront.{Written, written}
-use Rattle.packed.proofs.GoodFile.{GoodFile, good}
+use Rattle.packed.proofs.GoodFile.{good}
 
 unpack-was-done : {file words after : List ℕ} {n : ℕ} → Unpacked file words (Done n) after →
     GoodFile file × Written (wordsIn file) words n after

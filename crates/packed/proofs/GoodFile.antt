@@ -1,5 +1,5 @@
--- The files that neither row 1 nor row 2 refuses, said without negation: version 1, and a header that says how many octets
--- follow, two for each of at most 8,707 words. Assumes nothing.
+-- The files that neither row 1 nor row 2 refuses are the good ones, which are said without negation; of octets, these are the files
+-- of at most 8,707 words. Assumes nothing.
 use mathlib.Core.Path.{_≡_, refl, sym, ap, _∙_}
 use mathlib.Core.List.{List, [], _∷_}
 use mathlib.Core.Logic.{_↔_, Dec·not-not}
@@ -9,18 +9,12 @@ use native.Mathlib.Nat.{div-add-mod'}
 use native.Mathlib.Omega.{arith}
 use lib.Arith.{digits-div, digits-mod}
 use lib.ListN.{length, getD, length-drop, List·getD-eq-default}
-use Rattle.packed.specs.File.{octetsOf, fileOf, said, following, wordsIn}
+use Rattle.packed.specs.File.{octetsOf, fileOf, said, following, wordsIn, Octets, GoodFile}
 use Rattle.packed.specs.Promise.{NotVersionOne, BadLength}
 use Rattle.packed.specs.Promise.NotVersionOne.{empty, first-not-one}
 use Rattle.packed.specs.Promise.BadLength.{under-three, odd, above, not-following}
-use Rattle.packed.proofs.WordsAndOctets.{Octets, length-octetsOf, length-fileOf, length-wordsIn}
+use Rattle.packed.proofs.WordsAndOctets.{length-octetsOf, length-fileOf, length-wordsIn}
 use Rattle.packed.proofs.WordsAndOctets.{wordsIn-fileOf, octets-back}
-
-pub record GoodFile (file : List ℕ) : Type 0 where
-  pub version : getD file 0 0 ≡ 1
-  pub all : length file ≡ 3 + 2 * length (wordsIn file)
-  pub says : said file ≡ 2 * length (wordsIn file)
-  pub most : length (wordsIn file) ≤ 8707
 
 module _ (file : List ℕ) where
   -- what the tests of code find of a header's length

@@ -4,6 +4,7 @@ pub mod BlockFilled
 pub mod GoodFile
 pub mod RowsOfJudged
 pub mod Settles
+pub mod Meets
 pub mod GivenExactly
 pub mod AfterAnswer
 pub mod RoundTrip

@@ -7,20 +7,19 @@ use mathlib.Core.List.{List, [], _∷_}
 use lib.ListN.{length, take}
 use Rattle.packed.specs.declared.FileAnswer.{FileAnswer}
 use Rattle.packed.specs.declared.FileAnswer.the-variants.{Done, Refused}
-use Rattle.packed.specs.File.{fileOf, wordsIn}
+use Rattle.packed.specs.File.{fileOf, wordsIn, Octets, GoodFile}
+use Rattle.packed.specs.SampleFile.{deck, deckOctets}
 use Rattle.answers.specs.Buffers.{over}
 use Rattle.packed.specs.Promise.{refused, NotVersionOne, BadLength, Unpacked, Packed}
 use Rattle.answers.specs.Refusals.Refusal.{not-version-one, bad-length, too-many-words, too-short}
-use Rattle.packed.proofs.WordsAndOctets.{Octets}
 use Rattle.answers.proofs.WrittenFromFront.{Written}
 use Rattle.packed.proofs.GoodFile as GoodFile
-use Rattle.packed.proofs.GoodFile.{GoodFile}
 use Rattle.packed.proofs.Settles as Settles
+use Rattle.packed.proofs.Meets as Meets
 use Rattle.packed.proofs.GivenExactly as Given
 use Rattle.packed.proofs.AfterAnswer as After
 use Rattle.packed.proofs.RoundTrip as RoundTrip
 use Rattle.packed.proofs.Samples as Samples
-use Rattle.packed.proofs.Samples.{deck, deckOctets}
 
 -- SETTLED. Any two outcomes that a promise allows for the same input coincide: the answer, and the whole of the lent buffer.
 pub unpack-settles : {file words a b : List ℕ} {r s : FileAnswer} →
@@ -30,6 +29,13 @@ unpack-settles = Settles.unpack-settles
 pub pack-settles : {words file a b : List ℕ} {r s : FileAnswer} →
     Packed words file r a → Packed words file s b → (r ≡ s) × (a ≡ b)
 pack-settles = Settles.pack-settles
+
+-- MET. For each input there is an answer and a buffer afterwards that a promise allows.
+pub unpack-met : (file words : List ℕ) → (r : FileAnswer) × (after : List ℕ) × Unpacked file words r after
+unpack-met = Meets.unpack-met
+
+pub pack-met : (words file : List ℕ) → (r : FileAnswer) × (after : List ℕ) × Packed words file r after
+pack-met = Meets.pack-met
 
 -- EXACTLY. Each answer is given exactly when document 01 says so, in its order.
 pub unpack-not-version-one : {file words after : List ℕ} {r : FileAnswer} → Unpacked file words r after →

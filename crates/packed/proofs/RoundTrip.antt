@@ -6,13 +6,13 @@ use Prim.Native.Nat.{ℕ, _≤_}
 use lib.ListN.{length, take}
 use Rattle.packed.specs.declared.FileAnswer.{FileAnswer}
 use Rattle.packed.specs.declared.FileAnswer.the-variants.{Done}
-use Rattle.packed.specs.File.{fileOf, wordsIn}
+use Rattle.packed.specs.File.{fileOf, wordsIn, Octets, GoodFile}
 use Rattle.answers.specs.Buffers.{over}
 use Rattle.packed.specs.Promise.{Unpacked, Packed}
 use Rattle.packed.specs.Promise.Unpacked.{all-words}
 use Rattle.packed.specs.Promise.Packed.{whole-file}
-use Rattle.packed.proofs.WordsAndOctets.{Octets, wordsIn-fileOf}
-use Rattle.packed.proofs.GoodFile.{GoodFile, passes, fileOf-good, file-back}
+use Rattle.packed.proofs.WordsAndOctets.{wordsIn-fileOf}
+use Rattle.packed.proofs.GoodFile.{passes, fileOf-good, file-back}
 use Rattle.packed.proofs.Settles.{unpack-settles, pack-settles}
 use Rattle.packed.proofs.AfterAnswer.{after-unpack, after-pack}
 

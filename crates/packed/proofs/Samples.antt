@@ -9,6 +9,7 @@ use lib.ListN.{length}
 use Rattle.packed.specs.declared.FileAnswer.{FileAnswer}
 use Rattle.packed.specs.declared.FileAnswer.the-variants.{Done, Refused}
 use Rattle.packed.specs.File.{octetsOf, fileOf}
+use Rattle.packed.specs.SampleFile.{deck, deckOctets}
 use Rattle.answers.specs.Buffers.{over}
 use Rattle.packed.specs.Promise.{refused, Unpacked}
 use Rattle.packed.specs.Promise.NotVersionOne.{empty}
@@ -21,15 +22,6 @@ use Rattle.packed.proofs.RoundTrip.{unpack-fileOf}
 pub zero-words : (words : List ℕ) → Unpacked (1 ∷ 0 ∷ 0 ∷ []) words (Done 0) words
 unfolding fileOf octetsOf over
 zero-words words = unpack-fileOf [] words (lit≤ tt) zero-le
-
--- "The deck grammar D .. (23 words)"
-abbrev pub deck : List ℕ
-deck = 3 ∷ 4 ∷ 0 ∷ 0 ∷ 1 ∷ 1 ∷ 0 ∷ 3 ∷ 1 ∷ 3 ∷ 0 ∷ 1 ∷ 2 ∷ 2 ∷ 4 ∷ 1 ∷ 1 ∷ 5 ∷ 2 ∷ 0 ∷ 2 ∷ 1 ∷ 6 ∷ []
-
-abbrev pub deckOctets : List ℕ
-deckOctets =
-    0 ∷ 3 ∷ 0 ∷ 4 ∷ 0 ∷ 0 ∷ 0 ∷ 0 ∷ 0 ∷ 1 ∷ 0 ∷ 1 ∷ 0 ∷ 0 ∷ 0 ∷ 3 ∷ 0 ∷ 1 ∷ 0 ∷ 3 ∷ 0 ∷ 0 ∷ 0 ∷ 1 ∷
-    0 ∷ 2 ∷ 0 ∷ 2 ∷ 0 ∷ 4 ∷ 0 ∷ 1 ∷ 0 ∷ 1 ∷ 0 ∷ 5 ∷ 0 ∷ 2 ∷ 0 ∷ 0 ∷ 0 ∷ 2 ∷ 0 ∷ 1 ∷ 0 ∷ 6 ∷ []
 
 -- "For D the input is 01 00 2E followed by the 46 octets of the words."
 pub deck-file : (fileOf deck ≡ 1 ∷ 0 ∷ 0x2e ∷ deckOctets) × (length deckOctets ≡ 46)

@@ -9,11 +9,7 @@ use native.Mathlib.Omega.{arith}
 use lib.Arith.{digits-div, digits-mod}
 use lib.ListN.{length, getD, length-drop}
 use lib.Seq.{getD-append-add, getD-drop}
-use Rattle.packed.specs.File.{octetsOf, fileOf, wordOf, wordsOf, following, wordsIn}
-
--- what a list of u8 is
-abbrev pub Octets : List ℕ → Type 0
-Octets file = (i : ℕ) → getD file i 0 < 256
+use Rattle.packed.specs.File.{octetsOf, fileOf, wordOf, wordsOf, following, wordsIn, Octets}
 
 twice-suc : (n : ℕ) → 2 * suc n ≡ suc (suc (2 * n))
 twice-suc n = omega arith

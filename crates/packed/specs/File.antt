@@ -1,7 +1,8 @@
 -- The packed file, from document 01, "Grammar words": what octets words spell, and what words octets spell. A list of numbers
 -- stands for octets and for words alike; that octets are below 256 and words below 65,536 is given by the types of the code.
 -- Assumes nothing.
-use Prim.Native.Nat.{ℕ, _+_, _*_, _/_, _%_}
+use Prim.Native.Nat.{ℕ, _+_, _*_, _/_, _%_, _≤_, _<_}
+use mathlib.Core.Path.{_≡_}
 use mathlib.Core.List.{List, [], _∷_}
 use lib.ListN.{length, getD, drop}
 
@@ -35,3 +36,15 @@ following file = drop 3 file
 
 abbrev pub wordsIn : List ℕ → List ℕ
 wordsIn file = wordsOf (following file)
+
+-- what a list of u8 is
+abbrev pub Octets : List ℕ → Type 0
+Octets file = (i : ℕ) → getD file i 0 < 256
+
+-- a file that neither row 1 nor row 2 refuses: version 1, and a header that says how many octets follow, two for each of at most
+-- 8,707 words
+pub record GoodFile (file : List ℕ) : Type 0 where
+  pub version : getD file 0 0 ≡ 1
+  pub all : length file ≡ 3 + 2 * length (wordsIn file)
+  pub says : said file ≡ 2 * length (wordsIn file)
+  pub most : length (wordsIn file) ≤ 8707

@@ -1,0 +1,4 @@
+-- What the promises settle.
+pub mod CellsSettle
+-- The final statements.
+pub mod Main

@@ -1,0 +1,17 @@
+-- The final statements of this crate, each by one citation. Assumes nothing.
+use Prim.Native.Nat.{ℕ, _≤_, _%_}
+use mathlib.Core.Path.{_≡_}
+use mathlib.Core.List.{List}
+use lib.ListN.{set}
+use Rattle.cells.proofs.CellsSettle as CellsSettle
+
+-- SETTLED. Any two outcomes that a promise allows for the same input coincide.
+pub put-settles : (before : List ℕ) (i v : ℕ) {after after′ : List ℕ} →
+    after ≡ set before i v → after′ ≡ set before i v → after ≡ after′
+put-settles = CellsSettle.put-settles
+
+pub narrow-settles : (x : ℕ) {r s : ℕ} → (r ≡ x % 65536) × (x ≤ 65535 → r ≡ x) → (s ≡ x % 65536) × (x ≤ 65535 → s ≡ x) → r ≡ s
+narrow-settles = CellsSettle.narrow-settles
+
+pub wide-settles : (x : ℕ) {r s : ℕ} → r ≡ x → s ≡ x → r ≡ s
+wide-settles = CellsSettle.wide-settles

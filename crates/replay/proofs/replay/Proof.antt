@@ -1,0 +1,43 @@
+-- `replay::replay` meets its contract: row 4 is the judge's, and the others are those of a grammar. Assumes nothing.
+use borrow.Author.Needs.{needs}
+use Rattle.grammar.proofs.WordsRead.{broken-of, begun-of}
+use Rattle.replay.specs.Replay.{row-4}
+use Rattle.replay.proofs.replay.Statement.{statement}
+use Rattle.replay.proofs.replay.Tie as tie
+
+read-requires : tie.Need-read-requires
+read-requires c κs = search needs
+
+enum-known-place : tie.Need-enum-known-place
+enum-known-place c = search needs
+
+enum-known-nonterminals : tie.Need-enum-known-nonterminals
+enum-known-nonterminals c = search needs
+
+of-grammar-requires : tie.Need-of-grammar-requires
+of-grammar-requires c κs =
+    let at-read = c .before .before .before .before .before in
+    let read = at-read .read in
+    let begun = begun-of _ _ (read .ensures .0) (read .ensures .1) (c .before .before .before .nonterminals .given .1) in
+    (begun .grammar, begun .view)
+
+returns : tie.Need-returns
+returns c = row-4 (broken-of _ (c .before .before .before .read .ensures .0) (c .before .place .given .1))
+
+same-length : tie.Need-same-length
+same-length c = search needs
+
+returns-2 : tie.Need-returns-2
+returns-2 c = search needs
+
+pub replay-spec : {M : Type 1} → statement M
+replay-spec =
+    tie.close
+    (tie.spec
+    read-requires
+    enum-known-place
+    enum-known-nonterminals
+    of-grammar-requires
+    returns
+    same-length
+    returns-2)

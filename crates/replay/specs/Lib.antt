@@ -1,0 +1,6 @@
+-- What a reader must believe, in reading order.
+pub mod Replay
+pub mod Given
+-- What the private functions promise each other; nobody has to believe it.
+pub mod Forms
+pub mod ReplaySteps

@@ -1,0 +1,182 @@
+// What `replay` answers of a grammar and a list: 12, 11, 3, or the sentence. Tokens are kept aside until no refusal can come, and
+// how much room is cleared for that, and for the stack, goes by the list's length.
+ghost use mathlib.Core.Path.{_≡_};
+ghost use Prim.Native.Nat.{_≤_};
+ghost use lib.ListN.{length, take};
+ghost use Rattle.answers.specs.Buffers.{over};
+ghost use Rattle.grammar.specs.Words.{Grammar};
+ghost use Rattle.grammar.proofs.RulesInView.{View};
+ghost use Rattle.replay.specs.Replay.{Replay};
+use crate::ReplayAnswer;
+use crate::derivation::Outcome;
+use crate::derivation::run;
+
+// The most numbers that a replayed list has.
+const MOST_NUMBERS: usize = 4096;
+
+// Shorter lists, for which less room is cleared.
+const FEW_NUMBERS: usize = 64;
+
+const SOME_NUMBERS: usize = 256;
+
+// 12, and what follows.
+pub fn of_grammar(
+    words: &[u16],
+    starts: &[u16; 256],
+    n: usize,
+    rules: usize,
+    list: &[u16],
+    sentence: &mut [u16],
+) -> ReplayAnswer
+    requires { ⌜ ((g : Grammar) × View (now words) (now starts) n rules g) ⌝ }
+    ensures { λ r. ⌜ Replay (now (words .entry)) (now (list .entry)) (now (sentence .entry)) r (now (sentence .exit)) ⌝ }
+{
+    if MOST_NUMBERS < list.len() {
+        return ReplayAnswer::Refused {
+            number: answers::LONG_LIST,
+            place: MOST_NUMBERS,
+        };
+    }
+    if list.len() <= FEW_NUMBERS {
+        return of_few(words, starts, n, rules, list, sentence);
+    }
+    if list.len() <= SOME_NUMBERS {
+        return of_some(words, starts, n, rules, list, sentence);
+    }
+    of_many(words, starts, n, rules, list, sentence)
+}
+
+// A short list, with little room to clear.
+fn of_few(
+    words: &[u16],
+    starts: &[u16; 256],
+    n: usize,
+    rules: usize,
+    list: &[u16],
+    sentence: &mut [u16],
+) -> ReplayAnswer
+    requires { ⌜ ((g : Grammar) × View (now words) (now starts) n rules g) × (length (now list) ≤ 64) ⌝ }
+    ensures { λ r. ⌜ Replay (now (words .entry)) (now (list .entry)) (now (sentence .entry)) r (now (sentence .exit)) ⌝ }
+{
+    let mut ats = [0u16; FEW_NUMBERS];
+    let mut lefts = [0u16; FEW_NUMBERS];
+    let mut aside = [0u16; 64];
+    of_list(
+        words,
+        starts,
+        n,
+        rules,
+        list,
+        &mut ats,
+        &mut lefts,
+        &mut aside,
+        sentence,
+    )
+}
+
+// A longer one, of which the sentence can be long.
+fn of_some(
+    words: &[u16],
+    starts: &[u16; 256],
+    n: usize,
+    rules: usize,
+    list: &[u16],
+    sentence: &mut [u16],
+) -> ReplayAnswer
+    requires { ⌜ ((g : Grammar) × View (now words) (now starts) n rules g) × (length (now list) ≤ 256) ⌝ }
+    ensures { λ r. ⌜ Replay (now (words .entry)) (now (list .entry)) (now (sentence .entry)) r (now (sentence .exit)) ⌝ }
+{
+    let mut ats = [0u16; SOME_NUMBERS];
+    let mut lefts = [0u16; SOME_NUMBERS];
+    let mut aside = [0u16; MOST_NUMBERS];
+    of_list(
+        words,
+        starts,
+        n,
+        rules,
+        list,
+        &mut ats,
+        &mut lefts,
+        &mut aside,
+        sentence,
+    )
+}
+
+// Any list.
+fn of_many(
+    words: &[u16],
+    starts: &[u16; 256],
+    n: usize,
+    rules: usize,
+    list: &[u16],
+    sentence: &mut [u16],
+) -> ReplayAnswer
+    requires { ⌜ ((g : Grammar) × View (now words) (now starts) n rules g) × (length (now list) ≤ 4096) ⌝ }
+    ensures { λ r. ⌜ Replay (now (words .entry)) (now (list .entry)) (now (sentence .entry)) r (now (sentence .exit)) ⌝ }
+{
+    let mut ats = [0u16; MOST_NUMBERS];
+    let mut lefts = [0u16; MOST_NUMBERS];
+    let mut aside = [0u16; MOST_NUMBERS];
+    of_list(
+        words,
+        starts,
+        n,
+        rules,
+        list,
+        &mut ats,
+        &mut lefts,
+        &mut aside,
+        sentence,
+    )
+}
+
+// 11, 3, and the sentence. The tokens are kept aside until 11 and 3 are passed; a sentence that is longer than the room aside takes
+// a second run.
+fn of_list(
+    words: &[u16],
+    starts: &[u16; 256],
+    n: usize,
+    rules: usize,
+    list: &[u16],
+    ats: &mut [u16],
+    lefts: &mut [u16],
+    aside: &mut [u16],
+    sentence: &mut [u16],
+) -> ReplayAnswer
+    requires { ⌜ ((g : Grammar) × View (now words) (now starts) n rules g) × ((length (now list) ≤ 4096) ×
+        ((length (now list) ≤ length (now ats)) × (length (now list) ≤ length (now lefts)))) ⌝ }
+    ensures { λ r. ⌜ Replay (now (words .entry)) (now (list .entry)) (now (sentence .entry)) r (now (sentence .exit)) ⌝ }
+{
+    match run(words, starts, n, rules, list, ats, lefts, aside) {
+        Outcome::Stopped { place } => ReplayAnswer::Refused {
+            number: answers::NO_DERIVATION,
+            place,
+        },
+        Outcome::Sentence { tokens } => {
+            if sentence.len() < tokens {
+                return ReplayAnswer::Refused {
+                    number: answers::TOO_SHORT,
+                    place: tokens,
+                };
+            }
+            if tokens <= aside.len() {
+                copy_front(aside, tokens, sentence);
+                return ReplayAnswer::Done(tokens);
+            }
+            run(words, starts, n, rules, list, ats, lefts, sentence);
+            ReplayAnswer::Done(tokens)
+        }
+    }
+}
+
+// Copies the first words of one slice over those of another.
+fn copy_front(from: &[u16], count: usize, to: &mut [u16])
+    requires { ⌜ (count ≤ length (now from)) × (count ≤ length (now to)) ⌝ }
+    ensures { λ _. ⌜ now (to .exit) ≡ over (take count (now (from .entry))) (now (to .entry)) ⌝ }
+{
+    let mut i = 0;
+    while i < count {
+        to[i] = from[i];
+        i += 1;
+    }
+}
