@@ -13,9 +13,9 @@ use Rattle.tables.specs.Promise.{Tables}
 use Rattle.handout.specs.declared.NextAnswer.{NextAnswer}
 use Rattle.handout.specs.declared.NextAnswer.the-variants as sentence
 use Rattle.handout.specs.Next.{Lent, NextPromise}
-use Rattle.handout.specs.declared.ReplayAnswer.{ReplayAnswer}
-use Rattle.handout.specs.declared.ReplayAnswer.the-variants as replay
-use Rattle.handout.specs.Replay.{Replay}
+use Rattle.replay.specs.declared.ReplayAnswer.{ReplayAnswer}
+use Rattle.replay.specs.declared.ReplayAnswer.the-variants as replay
+use Rattle.replay.specs.Replay.{Replay}
 use Rattle.calls.specs.Numbers.{done, next, finished, refused, ofFile, ofTable, ofNext, ofReplay}
 use Rattle.calls.specs.Called.{Called, UnpackCalled, PackCalled, TablesCalled, NextCalled, ReplayCalled}
 

@@ -4,11 +4,11 @@
 use Prim.Native.Nat.{ℕ}
 use mathlib.Core.Path.{_≡_, sym, ap, _∙_}
 use mathlib.Core.List.{List}
-use Rattle.packed.proofs.Settles.{unpack-settles, pack-settles}
-use Rattle.tables.proofs.TablesSettles.{tables-settles}
+use Rattle.packed.proofs.Main.{unpack-settles, pack-settles}
+use Rattle.tables.proofs.Main.{tables-settles}
 use Rattle.handout.specs.Next.{Lent}
-use Rattle.handout.proofs.NextSettles.{next-settles}
-use Rattle.handout.proofs.ReplaySettles.{replay-settles}
+use Rattle.handout.proofs.Main.{next-settles}
+use Rattle.replay.proofs.Main.{replay-settles}
 use Rattle.calls.specs.Called.{Called, UnpackCalled, PackCalled, TablesCalled, NextCalled, ReplayCalled}
 
 called-settles : {Answer Buffers : Type 0} {Promise : Answer → Buffers → Type 0} {numbersOf : Answer → List ℕ} →

@@ -9,8 +9,8 @@ use Rattle.tables.specs.declared.TableAnswer.{TableAnswer}
 use Rattle.tables.specs.Promise.{Tables}
 use Rattle.handout.specs.declared.NextAnswer.{NextAnswer}
 use Rattle.handout.specs.Next.{Lent, NextPromise}
-use Rattle.handout.specs.declared.ReplayAnswer.{ReplayAnswer}
-use Rattle.handout.specs.Replay.{Replay}
+use Rattle.replay.specs.declared.ReplayAnswer.{ReplayAnswer}
+use Rattle.replay.specs.Replay.{Replay}
 use Rattle.calls.specs.Numbers.{ofFile, ofTable, ofNext, ofReplay}
 
 -- Of a family's answers, what its promise allows and how they are written as numbers: four numbers and buffers afterwards.

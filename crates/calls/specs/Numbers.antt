@@ -17,8 +17,8 @@ use Rattle.tables.specs.declared.TableAnswer.{TableAnswer}
 use Rattle.tables.specs.declared.TableAnswer.the-variants as table
 use Rattle.handout.specs.declared.NextAnswer.{NextAnswer}
 use Rattle.handout.specs.declared.NextAnswer.the-variants as sentence
-use Rattle.handout.specs.declared.ReplayAnswer.{ReplayAnswer}
-use Rattle.handout.specs.declared.ReplayAnswer.the-variants as replay
+use Rattle.replay.specs.declared.ReplayAnswer.{ReplayAnswer}
+use Rattle.replay.specs.declared.ReplayAnswer.the-variants as replay
 
 -- the four kinds of answer, whichever call gives them
 abbrev pub done : ℕ → List ℕ

@@ -63,5 +63,5 @@ pub extern "C" fn vanchiluk_replay(
     ensures { λ _. ⌜ ReplayCalled (now (words .entry)) (now (list .entry)) (now (sentence .entry)) (now (answer .exit))
         (now (sentence .exit)) ⌝ }
 {
-    *answer = numbers::of_replay(handout::replay(words, list, sentence));
+    *answer = numbers::of_replay(replay::replay(words, list, sentence));
 }

@@ -2,8 +2,8 @@
 ghost use mathlib.Core.Path.{_≡_};
 ghost use Rattle.calls.specs.Numbers.{done, next, finished, refused, ofFile, ofTable, ofNext, ofReplay};
 use handout::NextAnswer;
-use handout::ReplayAnswer;
 use packed::FileAnswer;
+use replay::ReplayAnswer;
 use tables::TableAnswer;
 
 // The kinds of answer.

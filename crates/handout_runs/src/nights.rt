@@ -6,7 +6,7 @@ use crate::buffers::MOST_TABLE;
 use crate::buffers::MOST_WORDS;
 use crate::buffers::UNTOUCHED;
 use handout::NextAnswer;
-use handout::ReplayAnswer;
+use replay::ReplayAnswer;
 
 const MOST_RULES: usize = 256;
 
@@ -67,7 +67,7 @@ fn hand_out(words: &[u16], table: &[u16], marks: &mut [u8]) -> bool {
 // Whether the replay of a derivation leaves the same in a buffer as `next` did.
 fn print_again(words: &[u16], derivation: &[u16], sentence: &[u16]) {
     let mut again = [UNTOUCHED; MOST_NUMBERS];
-    match handout::replay(words, derivation, &mut again) {
+    match replay::replay(words, derivation, &mut again) {
         ReplayAnswer::Done(_) => {
             if buffers::same(&again, sentence) {
                 print::text(b" again");

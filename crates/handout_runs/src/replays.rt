@@ -3,7 +3,7 @@ use crate::buffers;
 use crate::buffers::MOST_NUMBERS;
 use crate::buffers::MOST_WORDS;
 use crate::buffers::UNTOUCHED;
-use handout::ReplayAnswer;
+use replay::ReplayAnswer;
 
 // More words than a replayed sentence has: 4,096 rules of 32 symbols.
 const MOST_SENTENCE: usize = 131073;
@@ -36,7 +36,7 @@ fn lend(words: &[u16], list: &[u16], sentence: &mut [u16], room: usize) {
 }
 
 fn run(words: &[u16], list: &[u16], sentence: &mut [u16]) {
-    match handout::replay(words, list, sentence) {
+    match replay::replay(words, list, sentence) {
         ReplayAnswer::Done(tokens) => {
             print::text(b" done");
             buffers::print_list(sentence, tokens);

@@ -4,19 +4,18 @@
 -- to come, are together the row. Assumes nothing.
 use Prim.Native.Nat.{ℕ, _≤_}
 use native.Mathlib.Omega.{arith}
-use mathlib.Core.Path.{_≡_, refl, sym, ap, _∙_}
+use mathlib.Core.Path.{_≡_, refl, sym, ap, _∙_, subst}
 use mathlib.Core.List.{List, [], _∷_, _++_, reverse, reverseAux}
 use lib.ListN.{length, take, length-append}
 use Rattle.answers.specs.Buffers.{over}
 use Rattle.answers.proofs.WrittenFromFront.{written}
 use Rattle.grammar.specs.Words.{Grammar, R, layout, reads}
 use Rattle.grammar.specs.Tree.{sentence, derivation}
-use Rattle.grammar.proofs.LayoutExact.{reads-unique}
-use Rattle.handout.specs.Next.{NextPromise, Lent, next, finished}
+use Rattle.handout.specs.Next.{NextPromise, Lent, AllUnused, next, finished}
 use Rattle.handout.specs.Night.{Handout, handout, Night, clear, later, Over}
 use Rattle.handout.specs.declared.NextAnswer.the-variants.{Next, Finished}
-use Rattle.handout.proofs.NextSettles.{next-settles}
-use Rattle.handout.proofs.NextExact.{Handed, next-writes, next-finished}
+use Rattle.handout.specs.Given.{Handed}
+use Rattle.handout.proofs.Main.{next-settles, next-writes, next-finished}
 use Rattle.samples.specs.Row.{lent, HandsOut, Hands, ClearMarks}
 
 -- A CALL that answered Next, by what it says of the buffers (`h`), and what the row has for it. In buffers with room for both,
@@ -80,6 +79,10 @@ module _ (words table : List ℕ) {g : Grammar} (e : layout words ≡ reads g) (
     are : reverseAux to-come handed ≡ reverse hs
     hands : Hands words table marks to-come
 
+  -- the words are one grammar
+  same-grammar : {k : Grammar} → layout words ≡ reads k → k ≡ g
+  same-grammar read = cc
+
   -- with nothing to come the call would have answered Finished
   one-more : {target n m : ℕ} {before after : Lent} {handed : List Handout} →
       NextPromise words table before (Next target n m) after → SoFar handed (before .marks) →
@@ -100,8 +103,9 @@ module _ (words table : List ℕ) {g : Grammar} (e : layout words ≡ reads g) (
           }
 
   so-far : {handed : List Handout} {marks : List ℕ} → Night words table handed marks → R g ≤ length marks → SoFar handed marks
-  so-far {marks = marks} (clear zeros) l =
-      record { to-come = hs; are = refl; hands = row marks (record { enough = l; clear = zeros }) }
+  so-far {marks = marks} (clear read zeros) l =
+      let unused = subst (λ (k : Grammar). AllUnused k marks) (same-grammar read) zeros in
+      record { to-come = hs; are = refl; hands = row marks (record { enough = l; clear = unused }) }
   so-far (later {target = target} {n = n} {m = m} night p) l =
       let long = next-writes p target n m refl .2 .marks .long in
       one-more p (so-far night (omega arith))
@@ -114,7 +118,7 @@ module _ (words table : List ℕ) {g : Grammar} (e : layout words ≡ reads g) (
           NextPromise words table (lent (o .before .marks) tokens rules) Finished (lent (o .before .marks) tokens rules))
       given =
           let (k, read, (own, l, used)) = next-finished (o .ends) .0 refl in
-          (rw (reads-unique words read e) at l, λ tokens rules. finished read (own .0) (own .1) l used)
+          (rw (same-grammar read) at l, λ tokens rules. finished read (own .0) (own .1) l used)
 
       z : SoFar handed (o .before .marks)
       z = so-far (o .night) (given .0)

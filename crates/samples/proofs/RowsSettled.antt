@@ -4,14 +4,14 @@ use mathlib.Core.Path.{_≡_}
 use mathlib.Core.List.{List, _++_}
 use Rattle.packed.specs.Promise.{Unpacked}
 use Rattle.packed.specs.declared.FileAnswer.the-variants as file-answer
-use Rattle.packed.proofs.Settles.{unpack-settles}
+use Rattle.packed.proofs.Main.{unpack-settles}
 use Rattle.tables.specs.Promise.{Tables}
 use Rattle.tables.specs.declared.TableAnswer.the-variants as table-answer
-use Rattle.tables.proofs.TablesSettles.{tables-settles}
-use Rattle.handout.specs.Replay.{Replay}
-use Rattle.handout.specs.declared.ReplayAnswer.the-variants as replay-answer
-use Rattle.handout.proofs.ReplaySettles.{replay-settles}
-use Rattle.handout.proofs.NextSettles.{next-settles}
+use Rattle.tables.proofs.Main.{tables-settles}
+use Rattle.replay.specs.Replay.{Replay}
+use Rattle.replay.specs.declared.ReplayAnswer.the-variants as replay-answer
+use Rattle.replay.proofs.Main.{replay-settles}
+use Rattle.handout.proofs.Main.{next-settles}
 use Rattle.samples.specs.Row.{Row, unpack-of, tables-of, replay-of, refusal-of, night-of, Result, writes, refuses}
 use Rattle.samples.specs.Row.{Answers, AnswersOnly, Holds, Settled, All, no-more, _and_}
 use Rattle.samples.proofs.NightSettled.{night-only}

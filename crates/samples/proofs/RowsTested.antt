@@ -15,13 +15,13 @@ use Rattle.packed.proofs.RoundTrip.{unpack-fileOf}
 use Rattle.grammar.specs.Words.{Grammar, R, Judged, reads, faults, layout}
 use Rattle.grammar.specs.Refusals.{Accepted}
 use Rattle.grammar.proofs.Dead.{open-reached}
-use Rattle.grammar.proofs.LayoutExact.{in-bounds}
 use Rattle.grammar.proofs.FigureTest.{each, each-at}
-use Rattle.grammar.proofs.Replay.{Replayed, derived, stopped, replay, replay-exact, replay-stops}
+use Rattle.grammar.proofs.Main.{layout-exact, replay-exact, replay-stops}
+use Rattle.grammar.proofs.Replay.{Replayed, derived, stopped, replay}
 use Rattle.tables.specs.Table.{IsTable, totalEntry}
 use Rattle.tables.specs.Promise as tables
 use Rattle.tables.proofs.TableComputed.{passes?, computed-table}
-use Rattle.handout.specs.Replay as handout
+use Rattle.replay.specs.Replay as replayed
 use Rattle.samples.specs.Row.{Row, unpack-of, tables-of, replay-of, refusal-of, night-of, Result, writes, refuses}
 use Rattle.samples.specs.Row.{Holds, All, no-more, _and_}
 use Rattle.samples.proofs.AnyBuffer.{refused-of-any}
@@ -88,7 +88,7 @@ table-accepts {g} {table} is t = record {
 table-sound : (words : List ℕ) (r : Result) (j : Judged Grammar) → layout words ≡ j → So (table? j r) → Holds (tables-of words r)
 table-sound words (writes table) (reads g) e t =
     let (passes, fits) = and-eq-true-iff (passes? g table) (totals-fit? g table) .0 t in
-    let is = computed-table (in-bounds words e) table passes in
+    let is = computed-table (layout-exact words g .0 e .0) table passes in
     let a = table-accepts is fits in
     λ before room. rw (is .long) (tables.done e (a .trees) (a .reached) (a .fit) (rw (is .long) at room) is)
 table-sound words (refuses number place) (reads g) e t = absurd (false≢true t)
@@ -116,12 +116,12 @@ replay-sound list words r (reads g) e t =
         Holds (replay-of list words r)
     go (writes sentence) (derived t) h l ends =
         let is : sentence ≡ t = same sentence t ends in
-        λ before room. rw is (handout.done e l (replay-exact g list t .0 h) (rw is at room))
+        λ before room. rw is (replayed.done e l (replay-exact g list t .0 h) (rw is at room))
     go (refuses number place) (derived t) h l ends = absurd (false≢true ends)
     go (writes sentence) (stopped p) h l ends = absurd (false≢true ends)
     go (refuses number place) (stopped p) h l ends =
         let (eleven, at) = and-eq-true-iff (eqb number 11) (eqb place p) .0 ends in
-        λ before. rw (eqb-true number 11 eleven, eqb-true place p at) (handout.row-11 e l (replay-stops g list p .0 h))
+        λ before. rw (eqb-true number 11 eleven, eqb-true place p at) (replayed.row-11 e l (replay-stops g list p .0 h))
 
 unpacked-sound : (file : List ℕ) (r : Result) → So (unpacked? file r) → Holds (unpack-of file r)
 unpacked-sound file (writes words) t =

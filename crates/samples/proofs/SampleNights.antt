@@ -14,7 +14,7 @@ use Rattle.grammar.specs.Refusals.{Lowest, Accepted}
 use Rattle.grammar.proofs.ASampleOfDerivations.{empty-rule}
 use Rattle.grammar.proofs.SampleFigures.{loop, loop-chosen}
 use Rattle.tables.specs.Table.{IsTable, HasTable}
-use Rattle.tables.proofs.TableSamples.{empty-has-table, loop-has-table}
+use Rattle.tables.proofs.Main.{empty-has-table, loop-has-table}
 use Rattle.handout.specs.Next.{Unused, AllUsed, Marked, Wanted, next, finished}
 use Rattle.handout.specs.Night.{handout}
 use Rattle.handout.proofs.MarksSettled.{marks-exist}
@@ -30,14 +30,14 @@ module _ (words table : List ℕ) {g : Grammar} (e : layout words ≡ reads g) (
   tabled rest = rw (take-at table rest _ (is .long)) is
 
   all-used : {marks marked : List ℕ} → ClearMarks g marks → Marked (derivation t) marks marked → AllUsed g marked
-  all-used c m k l zero-mark = omega (arith, m .sets k (omega (arith, c .enough)) (uses-all k l) (c .clear k))
+  all-used c m k l zero-mark = omega (arith, m .sets k (omega (arith, c .enough)) (uses-all k l) (c .clear k l))
 
   hands : (rest marks : List ℕ) → ClearMarks g marks →
       Hands words (table ++ rest) marks (handout 0 (sentence t) (derivation t) ∷ [])
   hands rest marks c =
       let (marked, m) = marks-exist (derivation t) marks in
       let target : Lowest (Unused g marks) 0 =
-      record { such = record { rule = some-rule; zero = c .clear 0 }; lowest = λ k u. omega arith } in
+      record { such = record { rule = some-rule; zero = c .clear 0 some-rule }; lowest = λ k u. omega arith } in
       let wanted : Wanted words (table ++ rest) marks g 0 t = record {
         grammar = e;
         accepted = a;

@@ -4,16 +4,16 @@
 use Prim.Native.Nat.{ℕ, _≤_}
 use mathlib.Core.Path.{_≡_}
 use mathlib.Core.List.{List, [], _∷_, _++_, reverse}
-use lib.ListN.{length, getD}
+use lib.ListN.{length}
 use Rattle.answers.specs.Buffers.{over}
 use Rattle.packed.specs.Promise.{Unpacked}
 use Rattle.packed.specs.declared.FileAnswer.the-variants as file-answer
 use Rattle.grammar.specs.Words.{Grammar, R, layout, reads}
 use Rattle.tables.specs.Promise.{Tables}
 use Rattle.tables.specs.declared.TableAnswer.the-variants as table-answer
-use Rattle.handout.specs.Replay.{Replay}
-use Rattle.handout.specs.declared.ReplayAnswer.the-variants as replay-answer
-use Rattle.handout.specs.Next.{NextPromise, Lent}
+use Rattle.replay.specs.Replay.{Replay}
+use Rattle.replay.specs.declared.ReplayAnswer.the-variants as replay-answer
+use Rattle.handout.specs.Next.{NextPromise, Lent, AllUnused}
 use Rattle.handout.specs.Night.{Handout, handout, Over}
 use Rattle.handout.specs.declared.NextAnswer.{NextAnswer}
 use Rattle.handout.specs.declared.NextAnswer.the-variants as next-answer
@@ -68,10 +68,10 @@ Hands words table marks [] =
     NextPromise words table (lent marks tokens rules) next-answer.Finished (lent marks tokens rules)
 Hands words table marks (h ∷ hs) = (marked : List ℕ) × HandsOut words table marks h marked × Hands words table marked hs
 
--- "marks (one octet per rule, 0 for unused ..)": all unused
+-- "marks (one octet per rule, 0 for unused ..)": each rule has one, and it is 0; octets past those are not looked at
 pub record ClearMarks (g : Grammar) (marks : List ℕ) : Type 0 where
   pub enough : R g ≤ length marks
-  pub clear : (i : ℕ) → getD marks i 0 ≡ 0
+  pub clear : AllUnused g marks
 
 -- A ROW HOLDS. What follows the table in its lent words may be anything.
 abbrev pub Holds : Row → Type 0
