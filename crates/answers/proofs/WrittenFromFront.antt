@@ -10,7 +10,7 @@ use native.Mathlib.Nat.{le-of-suc-le-suc, not-suc-le-zero}
 use native.Mathlib.Numerals.{add-one}
 use lib.ListN.{length, take, drop, getD, set, take-append-drop, length-append, length-drop}
 use lib.Seq.{take-length, take-append-seam, drop-append-seam}
-use Rattle.answers.specs.Buffers.{over}
+use Rattle.answers.specs.Buffers.{over, Written}
 
 -- the first i of src, and then dst's own: a store of the next makes it the first i + 1
 pub store-next : (src dst : List ℕ) (i : ℕ) → i < length src → i < length dst →
@@ -45,15 +45,6 @@ store-first x out buf i h = rw add-one (go buf i h)
 pub none-left : (buf : List ℕ) (i : ℕ) → take i buf ++ over [] (drop i buf) ≡ buf
 unfolding over
 none-left buf i = take-append-drop i buf
-
--- What is known of a buffer with n numbers, out, written over it: n lies within it, they are its front, past them it keeps its
--- content, and so its length.
-pub record Written (out buf : List ℕ) (n : ℕ) (after : List ℕ) : Type 0 where
-  pub count : n ≡ length out
-  pub within : n ≤ length after
-  pub front : take n after ≡ out
-  pub past : drop n after ≡ drop n buf
-  pub same-length : length after ≡ length buf
 
 pub written : (out buf : List ℕ) → length out ≤ length buf → Written out buf (length out) (over out buf)
 unfolding over

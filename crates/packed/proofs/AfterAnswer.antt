@@ -10,7 +10,8 @@ use Rattle.packed.specs.File.{fileOf, wordsIn, GoodFile}
 use Rattle.packed.specs.Promise.{Unpacked, Packed}
 use Rattle.packed.specs.Promise.Unpacked.{wrong-version, wrong-length, no-room-for-words, all-words}
 use Rattle.packed.specs.Promise.Packed.{too-many, no-room-for-file, whole-file}
-use Rattle.answers.proofs.WrittenFromFront.{Written, written}
+use Rattle.answers.specs.Buffers.{Written}
+use Rattle.answers.proofs.WrittenFromFront.{written}
 use Rattle.packed.proofs.GoodFile.{good}
 
 unpack-was-done : {file words after : List ℕ} {n : ℕ} → Unpacked file words (Done n) after →

@@ -9,10 +9,9 @@ use Rattle.packed.specs.declared.FileAnswer.{FileAnswer}
 use Rattle.packed.specs.declared.FileAnswer.the-variants.{Done, Refused}
 use Rattle.packed.specs.File.{fileOf, wordsIn, Octets, GoodFile}
 use Rattle.packed.specs.SampleFile.{deck, deckOctets}
-use Rattle.answers.specs.Buffers.{over}
+use Rattle.answers.specs.Buffers.{over, Written}
 use Rattle.packed.specs.Promise.{refused, NotVersionOne, BadLength, Unpacked, Packed}
 use Rattle.answers.specs.Refusals.Refusal.{not-version-one, bad-length, too-many-words, too-short}
-use Rattle.answers.proofs.WrittenFromFront.{Written}
 use Rattle.packed.proofs.GoodFile as GoodFile
 use Rattle.packed.proofs.Settles as Settles
 use Rattle.packed.proofs.Meets as Meets

@@ -14,8 +14,8 @@ use Rattle.grammar.specs.Derivation.{Derives, StopsAt}
 use Rattle.grammar.proofs.Replay.{Replayed, derived, stopped, replay, replay-exact, replay-stops}
 use Rattle.grammar.proofs.Replay.{derives-unique, stops-unique, derives-or-stops}
 use Rattle.answers.proofs.Gates.{Gate, stop, go, Settles, gate-settles}
-use Rattle.tables.proofs.FirstRows.{OfWords, fault, grammar, words-settle}
-use Rattle.tables.proofs.FirstRowsMet.{words-met}
+use Rattle.grammar.proofs.FirstRows.{OfWords, fault, grammar, words-settle}
+use Rattle.grammar.proofs.FirstRowsMet.{words-met}
 use Rattle.replay.specs.Replay.{Replay, refused, row-4, row-12, row-11, row-3, done}
 use Rattle.replay.specs.declared.ReplayAnswer.{ReplayAnswer}
 use Rattle.replay.specs.declared.ReplayAnswer.the-variants.{Done}

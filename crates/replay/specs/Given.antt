@@ -6,9 +6,8 @@ use mathlib.Core.List.{List}
 use lib.ListN.{length}
 use Rattle.answers.specs.Refusals.{Refusal, not-version-one, bad-length, too-many-words, too-short, broken-layout, no-tree}
 use Rattle.answers.specs.Refusals.{unreached, oversize, not-its-table, few-marks, derivation-short, no-derivation, long-list}
-use Rattle.grammar.specs.Words.{layout, faults}
+use Rattle.grammar.specs.Words.{layout, faults, Are}
 use Rattle.grammar.specs.Derivation.{Derives, StopsAt}
-use Rattle.tables.proofs.FirstRows.{Are}
 
 -- each refusal; those that document 01 does not name in replay's order, "Replay: 4, 12, 11, 3", never
 abbrev pub Given : (words list before : List ℕ) → Refusal → Type 0
