@@ -91,7 +91,12 @@ pub after-pack-refused : {words file after : List ℕ} {r : FileAnswer} → Pack
     r ≡ Refused number place → after ≡ file
 after-pack-refused = After.after-pack-refused
 
--- ROUND TRIPS. Unpacking what pack wrote gives the words back, and packing what unpack gave writes the same file.
+-- ROUND TRIPS. The file of at most 8,707 words is unpacked to them.
+pub unpack-fileOf : (ws room : List ℕ) → length ws ≤ 8707 → length ws ≤ length room →
+    Unpacked (fileOf ws) room (Done (length ws)) (over ws room)
+unpack-fileOf = RoundTrip.unpack-fileOf
+
+-- Unpacking what pack wrote gives the words back, and packing what unpack gave writes the same file.
 pub unpack-of-pack : {ws buf after : List ℕ} {n : ℕ} → Packed ws buf (Done n) after → {room then : List ℕ} {r : FileAnswer} →
     length ws ≤ length room → Unpacked (take n after) room r then → (r ≡ Done (length ws)) × (then ≡ over ws room)
 unpack-of-pack = RoundTrip.unpack-of-pack

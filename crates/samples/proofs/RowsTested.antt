@@ -11,7 +11,7 @@ use lib.Dec.{leb, eqb}
 use lib.ListN.{length}
 use borrow.Author.Tests.{leb-true, eqb-true}
 use Rattle.packed.specs.File.{fileOf}
-use Rattle.packed.proofs.RoundTrip.{unpack-fileOf}
+use Rattle.packed.proofs.Main.{unpack-fileOf}
 use Rattle.grammar.specs.Words.{Grammar, R, Judged, reads, faults, layout}
 use Rattle.grammar.specs.Refusals.{Accepted}
 use Rattle.grammar.proofs.Dead.{open-reached}

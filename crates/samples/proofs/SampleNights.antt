@@ -3,22 +3,25 @@
 -- Assumes nothing.
 use Prim.Native.Nat.{ℕ, zero, suc, _<_}
 use native.Mathlib.Omega.{arith}
-use mathlib.Core.Path.{_≡_, refl}
+use mathlib.Core.Path.{_≡_, refl, subst}
 use mathlib.Core.List.{List, [], _∷_, _++_, List·Memᴰ·head, List·Memᴰ·tail}
+use lib.ListN.{length}
 use lib.Seq.{take-at}
 use Rattle.grammar.specs.Words.{Grammar, R, RuleAt, layout, lefts, reads}
 use Rattle.grammar.specs.Tree.{Tree, Forest, node, nil, leaf, child, root, plug, sentence, derivation, _∈_}
 use Rattle.grammar.specs.Measure.{plain}
 use Rattle.grammar.specs.Least.{TreeOf}
 use Rattle.grammar.specs.Refusals.{Lowest, Accepted}
+use Rattle.grammar.proofs.Main.{tree-of-same}
 use Rattle.grammar.proofs.ASampleOfDerivations.{empty-rule}
 use Rattle.grammar.proofs.SampleFigures.{loop, loop-chosen}
 use Rattle.tables.specs.Table.{IsTable, HasTable}
 use Rattle.tables.proofs.Main.{empty-has-table, loop-has-table}
 use Rattle.handout.specs.Next.{Unused, AllUsed, Marked, Wanted, next, finished}
 use Rattle.handout.specs.Night.{handout}
-use Rattle.handout.proofs.MarksSettled.{marks-exist}
-use Rattle.samples.specs.Row.{night-of, ClearMarks, Hands, Holds}
+use Rattle.handout.specs.Given.{GivenNext, Handed}
+use Rattle.handout.proofs.Main.{next-met, next-next, next-writes}
+use Rattle.samples.specs.Row.{night-of, lent, ClearMarks, Hands, Holds}
 use Rattle.samples.specs.Rows.{empty-words, empty-table, loop-words, loop-table}
 use Rattle.samples.proofs.RowsTested.{table-accepts}
 
@@ -32,10 +35,23 @@ module _ (words table : List ℕ) {g : Grammar} (e : layout words ≡ reads g) (
   all-used : {marks marked : List ℕ} → ClearMarks g marks → Marked (derivation t) marks marked → AllUsed g marked
   all-used c m k l zero-mark = omega (arith, m .sets k (omega (arith, c .enough)) (uses-all k l) (c .clear k l))
 
+  -- the marks that a call with this target leaves, whatever its buffers
+  marks-left : (rest marks : List ℕ) → Wanted words (table ++ rest) marks g 0 t → (marked : List ℕ) × Marked (derivation t) marks marked
+  marks-left rest marks wanted =
+      let n = length (sentence t) in
+      let m = length (derivation t) in
+      let before = lent marks (sentence t) (derivation t) in
+      let (a, after, p) = next-met words (table ++ rest) before in
+      let given : GivenNext words (table ++ rest) before 0 n m =
+      record { g = g; r = 0; t = t; wanted = wanted; holds = (refl, refl, refl, omega arith, omega arith) } in
+      let (k, read, there) = next-writes p 0 n m (next-next p 0 n m .1 given) in
+      let same : k ≡ g = cc in
+      let h = subst (λ (j : Grammar). Handed words (table ++ rest) before after 0 n m j) same there in
+      (after .marks, rw (tree-of-same plain tree (h .wanted .tree) .1) (h .marks))
+
   hands : (rest marks : List ℕ) → ClearMarks g marks →
       Hands words (table ++ rest) marks (handout 0 (sentence t) (derivation t) ∷ [])
   hands rest marks c =
-      let (marked, m) = marks-exist (derivation t) marks in
       let target : Lowest (Unused g marks) 0 =
       record { such = record { rule = some-rule; zero = c .clear 0 some-rule }; lowest = λ k u. omega arith } in
       let wanted : Wanted words (table ++ rest) marks g 0 t = record {
@@ -45,7 +61,8 @@ module _ (words table : List ℕ) {g : Grammar} (e : layout words ≡ reads g) (
         marked = c .enough;
         target = target;
         tree = tree;
-      } in (
+      } in
+      let (marked, m) = marks-left rest marks wanted in (
         marked,
         λ tokens rules l k. next wanted l k m,
         λ tokens rules. finished e a (tabled rest) (omega (arith, c .enough, m .long)) (all-used c m),
