@@ -1,6 +1,5 @@
 // What is left of a form while it is opened from the left: of the right side that is read, where the next symbol is and how many
-// are left; the rests of others wait on a stack, and a rest of nothing does not wait. `replayed` opens by the numbers of a list,
-// the lister by chosen rules.
+// are left; the rests of others wait on a stack, and a rest of nothing does not wait. Which rule opens a symbol is `derivation`'s.
 ghost use mathlib.Core.Path.{_≡_};
 ghost use Prim.Native.Nat.{_+_, _-_, _≤_, _<_};
 ghost use lib.ListN.{length};

@@ -47,7 +47,8 @@ module _ (words table : List ℕ) {g : Grammar} (e : layout words ≡ reads g) (
       let (k, read, there) = next-writes p 0 n m (next-next p 0 n m .1 given) in
       let same : k ≡ g = cc in
       let h = subst (λ (j : Grammar). Handed words (table ++ rest) before after 0 n m j) same there in
-      (after .marks, rw (tree-of-same plain tree (h .wanted .tree) .1) (h .marks))
+      let same-tree = tree-of-same plain (h .wanted .tree) tree .1 in
+      (after .marks, subst (λ (ks : List ℕ). Marked ks marks (after .marks)) same-tree (h .marks))
 
   hands : (rest marks : List ℕ) → ClearMarks g marks →
       Hands words (table ++ rest) marks (handout 0 (sentence t) (derivation t) ∷ [])
