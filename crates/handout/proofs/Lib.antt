@@ -20,6 +20,7 @@ pub mod TreeWrites
 -- What a night comes to.
 pub mod NightProper
 pub mod NightCovers
+pub mod HandoutsReplay
 pub mod NightEnds
 -- The final statements.
 pub mod Main

@@ -6,12 +6,16 @@ use mathlib.Core.Logic.{_↔_}
 use mathlib.Core.List.{List}
 use lib.ListN.{length}
 use Rattle.answers.specs.Refusals.{Refusal, broken-layout}
+use Rattle.answers.specs.Buffers.{over}
 use Rattle.grammar.specs.Words.{Grammar, R, layout, reads, FaultAt}
 use Rattle.grammar.specs.Derivation.{ProductionCoverage}
 use Rattle.grammar.specs.Refusals.{Accepted}
+use Rattle.replay.specs.Replay.{Replay}
+use Rattle.replay.specs.declared.ReplayAnswer.{ReplayAnswer}
+use Rattle.replay.specs.declared.ReplayAnswer.the-variants.{Done}
 use Rattle.tables.specs.Table.{HasTable}
 use Rattle.tables.specs.Dead.{Dead}
-use Rattle.tables.proofs.FirstRows.{Are}
+use Rattle.grammar.specs.Words.{Are}
 use Rattle.handout.specs.Next as next
 use Rattle.handout.specs.Next.{NextPromise, Lent}
 use Rattle.handout.specs.Given.{Given, GivenFinished, GivenNext, Handed, SaysDead}
@@ -24,6 +28,7 @@ use Rattle.handout.proofs.NextExact as NextExact
 use Rattle.handout.proofs.NextDead as NextDead
 use Rattle.handout.proofs.NightProper as NightProper
 use Rattle.handout.proofs.NightCovers as NightCovers
+use Rattle.handout.proofs.HandoutsReplay as HandoutsReplay
 use Rattle.handout.proofs.NightEnds as NightEnds
 
 -- NEXT. Its promise allows exactly one outcome, answer and three buffers, for each words, each table and each buffers before.
@@ -80,6 +85,13 @@ night-proper = NightProper.night-proper
 pub each-proper : {g : Grammar} {hs : List Handout} {r : ℕ} {t ks : List ℕ} → AllProper g hs → HandedOut hs r t ks →
     (earlier-ones : List Handout) × Proper g earlier-ones r t ks
 each-proper = NightCovers.each-proper
+
+-- Its derivation replays to its sentence.
+pub handouts-replay : {words table marks : List ℕ} {hs : List Handout} {g : Grammar} → layout words ≡ reads g →
+    Night words table hs marks → {r : ℕ} {t ks : List ℕ} → HandedOut hs r t ks →
+    {before after : List ℕ} {a : ReplayAnswer} → length t ≤ length before → Replay words ks before a after →
+    (a ≡ Done (length t)) × (after ≡ over t before)
+handouts-replay = HandoutsReplay.handouts-replay
 
 -- After n sentences every rule below n is used; there are never more than R; at Finished all are used, and the sentences satisfy
 -- Definition 2.10.

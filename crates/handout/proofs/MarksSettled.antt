@@ -13,7 +13,7 @@ use Rattle.grammar.specs.Tree.{_∈_}
 use Rattle.grammar.specs.Refusals.{Lowest}
 use Rattle.grammar.proofs.Search.{both?, member?, all-or-lowest}
 use Rattle.tables.specs.Written.{tabulate}
-use Rattle.tables.proofs.Tabulate.{length-tabulate, getD-tabulate}
+use Rattle.answers.proofs.Tabulate.{length-tabulate, getD-tabulate}
 use Rattle.handout.specs.Next.{Unused, AllUsed, Marked}
 
 module _ (ks before : List ℕ) where

@@ -13,7 +13,7 @@ use Rattle.grammar.specs.Words.{Grammar, R, layout, faults, FaultAt}
 use Rattle.grammar.specs.Tree.{Tree, sentence, derivation}
 use Rattle.grammar.specs.Refusals.{Lowest, NoTree, AllTrees, Unreached, AllReached, Oversize, Accepted}
 use Rattle.grammar.proofs.FirstOffence.{layout-faults-exact}
-use Rattle.tables.proofs.FirstRows.{Are}
+use Rattle.grammar.specs.Words.{Are}
 use Rattle.handout.specs.Given.{Given, GivenFinished, GivenNext, Handed}
 use Rattle.handout.specs.Next.{NextPromise, refused, Lent}
 use Rattle.handout.specs.Next.{row-4, row-5, row-6, row-7, row-8, row-9, finished, row-3, row-10, next}

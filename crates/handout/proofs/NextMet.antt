@@ -16,8 +16,8 @@ use Rattle.grammar.proofs.LayoutExact.{in-bounds}
 use Rattle.grammar.proofs.TreeOfExists.{tree-of-exists}
 use Rattle.tables.specs.Table.{HasTable}
 use Rattle.answers.proofs.Gates.{stop, go}
-use Rattle.tables.proofs.FirstRows.{OfWords, fault, grammar, FromFive}
-use Rattle.tables.proofs.FirstRowsMet.{words-met, five-met}
+use Rattle.grammar.proofs.FirstRows.{OfWords, fault, grammar, FromFive}
+use Rattle.grammar.proofs.FirstRowsMet.{words-met, five-met}
 use Rattle.tables.proofs.TestSettles.{tabled?}
 use Rattle.handout.specs.Next.{NextPromise, Unused, AllUsed, Wanted, Lent}
 use Rattle.handout.specs.Next.{row-4, row-5, row-6, row-7, row-8, row-9, finished, row-3, row-10, next}

@@ -8,7 +8,6 @@ use lib.ListN.{length, getD, take}
 use Rattle.answers.specs.Buffers.{over}
 use Rattle.grammar.specs.Words.{R, layout}
 use Rattle.grammar.specs.Words as W
-use Rattle.grammar.specs.Judge.{answerOf, startsRead}
 use Rattle.grammar.specs.Tree.{Tree, sentence, derivation}
 use Rattle.grammar.specs.Measure.{plain}
 use Rattle.grammar.specs.Least.{TreeOf}
@@ -20,7 +19,10 @@ use Rattle.grammar.proofs.SizeIsLength.{size-is-length}
 use Rattle.grammar.proofs.Unique.{total-unique}
 use Rattle.tables.proofs.TablePlaces.{total-front}
 use Rattle.grammar.proofs.RuleNumbers.{rule-number}
+use Rattle.grammar.specs.Judge.{startsOf}
 use Rattle.tables.specs.Promise as tables
+use Rattle.tables.specs.Promise.{startsWith}
+use Rattle.tables.specs.declared.Testing.{Testing}
 use Rattle.tables.specs.declared.TableTest.{TableTest}
 use Rattle.tables.specs.declared.TableTest.the-variants as test
 use Rattle.handout.specs.Next.{Lent, Marked, Wanted, NextPromise}
@@ -57,15 +59,16 @@ module _ {words table : List ℕ} (before : Lent) where
       go (tables.not-its e a n) = row-8 e a n
 
 -- and else the table is the grammar's, whose rules stand where the test noted them
-pub own-table : {words table starts : List ℕ} (noted : List ℕ) {r : TableTest} {rules : ℕ} → tables.Tested words table r →
-    r ≡ test.Its rules → starts ≡ startsRead words noted (answerOf (layout words)) → Tabled words starts table rules
-own-table {words} {table} {starts} noted t e s = go (rw e at t)
+pub own-table : {words table : List ℕ} {r : Testing} {rules : ℕ} → tables.TestPromise words table r → r .answer ≡ test.Its rules →
+    Tabled words (r .starts) table rules
+own-table {words} {table} {r} p is = go (rw is at (p .tested)) (p .stand ∙ ap (λ a. startsWith a (startsOf (layout words))) is)
   where
-    go : {rules : ℕ} → tables.Tested words table (test.Its rules) → Tabled words starts table rules
-    go (tables.its {g = g} e a h) = record {
+    go : {rules : ℕ} → tables.Tested words table (test.Its rules) → r .starts ≡ startsOf (layout words) →
+        Tabled words (r .starts) table rules
+    go (tables.its {g = g} e a h) s = record {
       g = g;
       accepted = a;
-      known = record { view = starts-of words noted e s; tabled = h };
+      known = record { view = starts-of words e s; tabled = h };
       all-rules = refl;
     }
 

@@ -17,7 +17,7 @@ use Rattle.grammar.proofs.Unique.{lowest-unique}
 use Rattle.grammar.proofs.SameListing.{tree-of-same}
 use Rattle.tables.specs.Table.{HasTable}
 use Rattle.answers.proofs.Gates.{Gate, stop, go, Settles, gate-settles}
-use Rattle.tables.proofs.FirstRows.{OfWords, fault, grammar, words-settle, FromFive, five-settles, past-seven}
+use Rattle.grammar.proofs.FirstRows.{OfWords, fault, grammar, words-settle, FromFive, five-settles, past-seven}
 use Rattle.handout.specs.Next.{NextPromise, refused, Unused, AllUsed, Marked, Wanted, Lent}
 use Rattle.handout.specs.Next.{row-4, row-5, row-6, row-7, row-8, row-9, finished, row-3, row-10, next}
 use Rattle.handout.specs.declared.NextAnswer.{NextAnswer}

@@ -7,12 +7,12 @@ use mathlib.Core.List.{List}
 use lib.ListN.{length}
 use Rattle.answers.specs.Refusals.{Refusal, not-version-one, bad-length, too-many-words, too-short, broken-layout, no-tree}
 use Rattle.answers.specs.Refusals.{unreached, oversize, not-its-table, few-marks, derivation-short, no-derivation, long-list}
-use Rattle.answers.proofs.WrittenFromFront.{Written}
+use Rattle.answers.specs.Buffers.{Written}
 use Rattle.grammar.specs.Words.{Grammar, R, layout, faults}
 use Rattle.grammar.specs.Tree.{Tree, sentence, derivation}
 use Rattle.grammar.specs.Refusals.{Lowest, NoTree, AllTrees, Unreached, AllReached, Oversize, Accepted}
 use Rattle.tables.specs.Table.{HasTable}
-use Rattle.tables.proofs.FirstRows.{Are}
+use Rattle.grammar.specs.Words.{Are}
 use Rattle.tables.proofs.TestSettles.{Own}
 use Rattle.handout.specs.Next.{refused, AllUsed, Marked, Wanted, Lent}
 use Rattle.handout.specs.declared.NextAnswer.{NextAnswer}

@@ -1,6 +1,5 @@
 // Handing out sentences: `next`. What it promises is specs/Next, and when it gives each answer specs/Given; what calls of it come to from
 // clear marks on is specs/Night.
-mod cells;
 mod handed;
 mod lister;
 mod marks;
@@ -36,8 +35,10 @@ pub fn next(
         (record { marks = now (marks .entry); tokens = now (sentence .entry); rules = now (derivation .entry) }) r
         (record { marks = now (marks .exit); tokens = now (sentence .exit); rules = now (derivation .exit) }) ⌝ }
 {
-    let mut starts = [0u16; 256];
-    match tables::test(words, table, &mut starts) {
+    let testing = tables::test(words, table);
+    let starts = testing.starts;
+    let answer = testing.answer;
+    match answer {
         TableTest::Refused { number, place } => NextAnswer::Refused { number, place },
         TableTest::NotIts => NextAnswer::Refused {
             number: answers::NOT_ITS_TABLE,

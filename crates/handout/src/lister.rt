@@ -5,8 +5,8 @@ ghost use mathlib.Core.Path.{_≡_};
 ghost use Prim.Native.Nat.{_<_};
 ghost use Rattle.handout.specs.Listing.{rightOf, SymbolReady, RuleReady, SymbolsReady, SymbolWritten, RuleWritten};
 ghost use Rattle.handout.specs.Listing.{SymbolsWritten};
-use crate::cells::put;
-use crate::cells::wide;
+use cells::put;
+use cells::wide;
 use grammar::rules;
 
 // How many rule numbers and how many tokens are listed so far, whether or not there was room for them. An answer has them the other

@@ -4,7 +4,7 @@ ghost use mathlib.Core.List.{[], _∷_};
 ghost use lib.ListN.{length, take};
 ghost use Rattle.handout.specs.Next.{Marked};
 ghost use Rattle.handout.specs.MarkSteps.{FirstUnused};
-use crate::cells::wide;
+use cells::wide;
 
 // The lowest unused rule, where there is one.
 pub enum Found {

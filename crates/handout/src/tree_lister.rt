@@ -4,9 +4,9 @@
 ghost use Rattle.handout.specs.Listing.{SymbolsWritten};
 ghost use Rattle.handout.specs.TreeListing.{ClimbReady, PathOf, FrontReady, BackReady, FrontWritten, backOf};
 ghost use Rattle.handout.specs.TreeListing.{before, after, WayReady, WayWritten, TreeReady, TreeWritten, none-so-far};
-use crate::cells::narrow;
-use crate::cells::put;
-use crate::cells::wide;
+use cells::narrow;
+use cells::put;
+use cells::wide;
 use crate::lister::Lengths;
 use crate::lister::list_rule;
 use crate::lister::list_symbols;

@@ -13,8 +13,8 @@ use Rattle.handout.specs.Listing.{sizeBy, sizesBy, rightOf}
 use Rattle.handout.proofs.Listings.{terminal-size, number-low}
 use Rattle.handout.proofs.ListerSteps.{table-long, Turn, tokens-kept, rules-kept, turns-begin, turn-goes-on, token-listed}
 use Rattle.handout.proofs.ListerSteps.{symbol-ready, symbol-smaller, rule-listed, rule-ready, rule-smaller, chosen-listed}
-use Rattle.handout.proofs.cells.put.Reads as put
-use Rattle.handout.proofs.cells.wide.Reads as wide
+use Rattle.cells.proofs.put.Reads as put
+use Rattle.cells.proofs.wide.Reads as wide
 use Rattle.handout.proofs.lister.right_of.Reads as right-of
 use Rattle.handout.proofs.lister.list_rule.Reads as rule
 use Rattle.handout.proofs.lister.list_rule.Kinds as rule-kinds

@@ -24,9 +24,7 @@ loop-holds c =
     (refl, way-begins (a .words .now) (a .starts .now) (a .table .now) (a .start) (a .from) (a .path .now))
 
 narrow-requires : tie.Need-narrow-requires Inv-loop μ-loop
-narrow-requires c κs =
-    let ready = c .before .before .before .before .before .pre in
-    omega (arith, nonterminal-low (ready .known) _ (way-low (c .before .loop .inv .1) ready))
+narrow-requires c κs = search needs
 
 mul-path : tie.Need-mul-path Inv-loop μ-loop
 mul-path c =
@@ -100,7 +98,9 @@ loop-again c =
     let inv = c .before .before .before .before .before .before .before .loop .inv in
     let up = c .wide2 .ensures ∙ ap (λ (j : ℕ). getD (c .before .before .before .before .before .before .before .before .before .before .before .args .words .now) j 0) at in
     let short = way-short (inv .1) ready in
-    (search needs, way-on (inv .1) (c .before .before .before .before .before .before .loop-test .taken) (omega (arith, inv .0)) (rw (c .before .before .before .before .before .narrow .ensures) refl) up)
+    let low = nonterminal-low (ready .known) _ (way-low (inv .1) ready) in
+    let same = c .before .before .before .before .before .narrow .ensures .1 (omega (arith, low)) in
+    (search needs, way-on (inv .1) (c .before .before .before .before .before .before .loop-test .taken) (omega (arith, inv .0)) (rw same refl) up)
 
 same-length : tie.Need-same-length Inv-loop μ-loop
 same-length c = search needs

@@ -49,16 +49,15 @@ list-before-requires c κs =
     way-before ready left (c .before .before .before .before .climb .ensures)
 
 narrow-requires : tie.Need-narrow-requires
-narrow-requires c κs =
-    let ready = c .before .before .before .before .before .before .before .before .before .before .before .before .before .before .before .before .before .before .pre in
-    omega (arith, number-low (ready .known) (ready .number))
+narrow-requires c κs = search needs
 
 list-rule-requires : tie.Need-list-rule-requires
 list-rule-requires c κs =
     let ready = c .before .before .before .before .before .before .before .before .before .before .before .before .before .before .before .before .before .before .before .before .before .pre in
     let at = index-is (ready .known) (ready .number) refl (c .before .before .before .before .before .before .before .before .before .before .before .before .before .before .before .before .index .ensures) in
     let left = c .before .before .before .before .before .before .before .before .before .before .before .before .before .before .wide .ensures ∙ ap (λ (j : ℕ). getD (c .before .before .before .before .before .before .before .before .before .before .before .before .before .before .before .before .before .before .before .before .before .args .words .now) j 0) at in
-    rw (c .before .before .narrow .ensures) (target-ready ready left (c .before .before .before .before .before .before .before .before .before .before .before .before .climb .ensures) (c .before .before .before .before .before .before .before .list-before .ensures))
+    let same = c .before .before .narrow .ensures .1 (omega (arith, number-low (ready .known) (ready .number))) in
+    rw same (target-ready ready left (c .before .before .before .before .before .before .before .before .before .before .before .before .climb .ensures) (c .before .before .before .before .before .before .before .list-before .ensures))
 
 slice-aggregate-list-after : tie.Need-slice-aggregate-list-after
 slice-aggregate-list-after c = search needs
@@ -68,8 +67,8 @@ list-after-requires c κs =
     let ready = c .before .before .before .before .before .before .before .before .before .before .before .before .before .before .before .before .before .before .before .before .before .before .before .before .before .before .before .before .before .pre in
     let at = index-is (ready .known) (ready .number) refl (c .before .before .before .before .before .before .before .before .before .before .before .before .before .before .before .before .before .before .before .before .before .before .before .before .index .ensures) in
     let left = c .before .before .before .before .before .before .before .before .before .before .before .before .before .before .before .before .before .before .before .before .before .before .wide .ensures ∙ ap (λ (j : ℕ). getD (c .before .before .before .before .before .before .before .before .before .before .before .before .before .before .before .before .before .before .before .before .before .before .before .before .before .before .before .before .before .args .words .now) j 0) at in
-    way-after ready left (c .before .before .before .before .before .before .before .before .before .before .before .before .before .before .before .before .before .before .before .before .climb .ensures) (c .before .before .before .before .before .before .before .before .before .before .before .before .before .before .before .list-before .ensures)
-    (rw (c .before .before .before .before .before .before .before .before .before .before .narrow .ensures) at (c .before .before .before .before .before .before .before .list-rule .ensures))
+    let same = c .before .before .before .before .before .before .before .before .before .before .narrow .ensures .1 (omega (arith, number-low (ready .known) (ready .number))) in
+    way-after ready left (c .before .before .before .before .before .before .before .before .before .before .before .before .before .before .before .before .before .before .before .before .climb .ensures) (c .before .before .before .before .before .before .before .before .before .before .before .before .before .before .before .list-before .ensures) (rw same at (c .before .before .before .before .before .before .before .list-rule .ensures))
 
 same-length : tie.Need-same-length
 same-length c = search needs
@@ -82,8 +81,9 @@ returns c =
     let ready = c .before .before .before .before .before .before .before .before .before .before .before .before .before .before .before .before .before .before .before .before .before .before .before .before .before .before .before .before .before .before .before .before .before .before .pre in
     let at = index-is (ready .known) (ready .number) refl (c .before .before .before .before .before .before .before .before .before .before .before .before .before .before .before .before .before .before .before .before .before .before .before .before .before .before .before .before .before .index .ensures) in
     let left = c .before .before .before .before .before .before .before .before .before .before .before .before .before .before .before .before .before .before .before .before .before .before .before .before .before .before .before .wide .ensures ∙ ap (λ (j : ℕ). getD (c .before .before .before .before .before .before .before .before .before .before .before .before .before .before .before .before .before .before .before .before .before .before .before .before .before .before .before .before .before .before .before .before .before .before .args .words .now) j 0) at in
-    tree-of-written ready left (c .before .before .before .before .before .before .before .before .before .before .before .before .before .before .before .before .before .before .before .before .before .before .before .before .before .climb .ensures) (c .before .before .before .before .before .before .before .before .before .before .before .before .before .before .before .before .before .before .before .before .list-before .ensures)
-    (rw (c .before .before .before .before .before .before .before .before .before .before .before .before .before .before .before .narrow .ensures) at (c .before .before .before .before .before .before .before .before .before .before .before .before .list-rule .ensures)) (c .before .before .before .before .list-after .ensures)
+    let same = c .before .before .before .before .before .before .before .before .before .before .before .before .before .before .before .narrow .ensures .1 (omega (arith, number-low (ready .known) (ready .number))) in
+    tree-of-written ready left (c .before .before .before .before .before .before .before .before .before .before .before .before .before .before .before .before .before .before .before .before .before .before .before .before .before .climb .ensures) (c .before .before .before .before .before .before .before .before .before .before .before .before .before .before .before .before .before .before .before .before .list-before .ensures) (rw same at (c .before .before .before .before .before .before .before .before .before .before .before .before .list-rule .ensures))
+    (c .before .before .before .before .list-after .ensures)
 
 pub list-tree-spec : {M : Type 1} → statement M
 list-tree-spec =
