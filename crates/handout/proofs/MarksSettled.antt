@@ -12,7 +12,7 @@ use Rattle.grammar.specs.Words.{Grammar, R}
 use Rattle.grammar.specs.Tree.{_∈_}
 use Rattle.grammar.specs.Refusals.{Lowest}
 use Rattle.grammar.proofs.Search.{both?, member?, all-or-lowest}
-use Rattle.tables.specs.Written.{tabulate}
+use Rattle.answers.specs.Lists.{tabulate}
 use Rattle.answers.proofs.Tabulate.{length-tabulate, getD-tabulate}
 use Rattle.handout.specs.Next.{Unused, AllUsed, Marked}
 

@@ -4,13 +4,13 @@
 ghost use Rattle.handout.specs.Listing.{SymbolsWritten};
 ghost use Rattle.handout.specs.TreeListing.{ClimbReady, PathOf, FrontReady, BackReady, FrontWritten, backOf};
 ghost use Rattle.handout.specs.TreeListing.{before, after, WayReady, WayWritten, TreeReady, TreeWritten, none-so-far};
-use cells::narrow;
-use cells::put;
-use cells::wide;
 use crate::lister::Lengths;
 use crate::lister::list_rule;
 use crate::lister::list_symbols;
 use crate::lister::right_of;
+use cells::narrow;
+use cells::put;
+use cells::wide;
 use grammar::rules;
 
 // The most nonterminals there are, and so the most on a way up.

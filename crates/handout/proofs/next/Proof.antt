@@ -7,25 +7,25 @@ use Rattle.handout.proofs.next.Tie as tie
 test-requires : tie.Need-test-requires
 test-requires c κs = search needs
 
-enum-known-number : tie.Need-enum-known-number
-enum-known-number c = search needs
+enum-known-answer : tie.Need-enum-known-answer
+enum-known-answer c = search needs
 
 enum-told : tie.Need-enum-told
 enum-told c = search needs
 
-enum-known-rules : tie.Need-enum-known-rules
-enum-known-rules c = search needs
+enum-known-answer-2 : tie.Need-enum-known-answer-2
+enum-known-answer-2 c = search needs
 
 with-table-requires : tie.Need-with-table-requires
 with-table-requires c κs =
-    let test = c .before .before .before .before .before .before .before .test in
-    own-table _ (test .ensures .0) (c .before .before .before .before .before .rules .given .1) (test .ensures .1)
+    own-table (c .before .before .before .before .before .before .before .before .test .ensures) (c .before .before .before .before .before .answer2 .given .1)
 
 returns : tie.Need-returns
-returns c = refuses-tested _ (c .before .before .before .test .ensures .0) (c .before .number .given .1)
+returns c =
+    refuses-tested _ (c .before .before .before .before .test .ensures .tested) (c .before .answer .given .1)
 
 returns-2 : tie.Need-returns-2
-returns-2 c = refuses-8 _ (c .before .before .test .ensures .0) (c .enum-told .given .1)
+returns-2 c = refuses-8 _ (c .before .before .before .test .ensures .tested) (c .enum-told .given .1)
 
 same-length : tie.Need-same-length
 same-length c = search needs
@@ -44,9 +44,9 @@ next-spec =
     tie.close
     (tie.spec
     test-requires
-    enum-known-number
+    enum-known-answer
     enum-told
-    enum-known-rules
+    enum-known-answer-2
     with-table-requires
     returns
     returns-2
