@@ -10,10 +10,11 @@ list-tree-requires c κs = ready (c .before .before .before .before .before .bef
 
 mark-rules-requires : tie.Need-mark-rules-requires
 mark-rules-requires c κs =
-    let start = c .before .before .before .before .before .before .before .before .before .before .before .before .before .before in
+    let listed = c .before .before .before .before .before .before in
+    let start = listed .before .before .before .before .before .before .before .before in
     let a = start .args in
     let (p, fits) = start .pre in
-    let within = numbers-within p (counted (c .before .before .before .before .before .before .list-tree .ensures)) (a .sentence .now) (a .derivation .now) fits in
+    let within = numbers-within p (counted (listed .list-tree .ensures)) (a .sentence .now) (a .derivation .now) fits in
     search needs
 
 same-length : tie.Need-same-length
@@ -27,8 +28,10 @@ same-length-3 c = search needs
 
 returns : tie.Need-returns
 returns c =
-    let (p, fits) = c .before .before .before .before .before .before .before .before .before .before .before .before .before .before .before .before .before .pre in
-    hands-out _ p fits (c .before .before .before .before .before .before .before .before .before .list-tree .ensures) (c .before .before .mark-rules .ensures)
+    let marked = c .before .before in
+    let listed = marked .before .before .before .before .before .before .before in
+    let (p, fits) = listed .before .before .before .before .before .before .before .before .pre in
+    hands-out _ p fits (listed .list-tree .ensures) (marked .mark-rules .ensures)
 
 pub write-out-spec : {M : Type 1} → statement M
 write-out-spec =
