@@ -1,14 +1,14 @@
 -- A sample of derivations, over document 01's deck grammar D, and of production coverage. The numbers of a rightmost derivation
 -- are no leftmost one: they stop at the first that is not for the leftmost nonterminal. Coverage asks for the last rule too.
 -- Proved from the definitions alone. Assumes nothing.
-use Prim.Native.Nat.{ℕ, zero, suc, _≤_, _<_}
+use Prim.Native.Nat.{ℕ, zero, suc, _<_}
 use native.Mathlib.Omega.{arith}
-use mathlib.Core.Path.{_≡_, refl, sym}
-use mathlib.Core.List.{List, [], _∷_, _++_}
-use Rattle.grammar.specs.Words.{Grammar, Rule, _⟶_, RuleAt}
-use Rattle.grammar.specs.Derivation.{Step, step, Steps, none, more, Start, L, Through, ProductionCoverage}
-use Rattle.grammar.specs.Derivation.{LeftStep, left, Leftmost, done, next, Derives, inapt, StopsAt}
-use Rattle.grammar.proofs.ASampleOfWords.{D}
+use mathlib.Core.Path.{_≡_, refl}
+use mathlib.Core.List.{List, [], _∷_}
+use Rattle.grammar.specs.Words.{RuleAt}
+use Rattle.grammar.specs.Derivation.{Step, step, Steps, none, more, Start, Through, ProductionCoverage}
+use Rattle.grammar.specs.Derivation.{LeftStep, left, done, next, Derives, inapt, StopsAt}
+use Rattle.grammar.specs.Samples.{D, empty-rule}
 
 rule-0 : RuleAt D 0 0 (1 ∷ [])
 rule-0 = record { stands = refl; left = omega arith }
@@ -56,9 +56,6 @@ rightmost-stops = record {
 }
 
 -- S ⟶ ε is the only rule and so the last: no sentences do not cover it, and the empty sentence does
-abbrev pub empty-rule : Grammar
-empty-rule = record { N = 1; T = 0; start = 0; rules = (0 ⟶ []) ∷ [] }
-
 pub nothing-covers : ¬ ProductionCoverage empty-rule (λ t. ⊥)
 nothing-covers c = c .covered 0 (omega arith) .1
 

@@ -2,22 +2,11 @@
 -- its bounds. All compute.
 -- Assumes nothing.
 use mathlib.Core.Path.{_≡_, refl}
-use mathlib.Core.List.{List, [], _∷_, _++_}
+use mathlib.Core.List.{List, [], _∷_}
 use Prim.Native.Nat.{ℕ}
 use lib.ListN.{replicate}
-use Rattle.grammar.specs.Words.{Grammar, Rule, _⟶_, layout, lefts, reads, faults}
-
--- "The deck grammar D: nonterminals 0 List, 1 Value, 2 Sign; terminals 3 comma, 4 number, 5 nan, 6 minus."
-abbrev pub D-words : List ℕ
-D-words = 3 ∷ 4 ∷ 0 ∷ 0 ∷ 1 ∷ 1 ∷ 0 ∷ 3 ∷ 1 ∷ 3 ∷ 0 ∷ 1 ∷ 2 ∷ 2 ∷ 4 ∷ 1 ∷ 1 ∷ 5 ∷ 2 ∷ 0 ∷ 2 ∷ 1 ∷ 6 ∷ []
-
-abbrev pub D : Grammar
-D = record {
-  N = 3;
-  T = 4;
-  start = 0;
-  rules = (0 ⟶ 1 ∷ []) ∷ (0 ⟶ 1 ∷ 3 ∷ 0 ∷ []) ∷ (1 ⟶ 2 ∷ 4 ∷ []) ∷ (1 ⟶ 5 ∷ []) ∷ (2 ⟶ []) ∷ (2 ⟶ 6 ∷ []) ∷ [];
-}
+use Rattle.grammar.specs.Words.{Grammar, _⟶_, layout, lefts, reads, faults}
+use Rattle.grammar.specs.Samples.{D-words, D}
 
 pub D-reads : layout D-words ≡ reads D
 unfolding layout lefts

@@ -13,14 +13,19 @@ use Rattle.grammar.specs.Words.{Grammar, RuleAt}
 use Rattle.grammar.specs.Tree.{Tree, Forest, node, nil, leaf, child, Open, root, down, _∈_}
 use Rattle.grammar.specs.Measure.{Cost, treeCost, forestCost, openCost}
 use Rattle.grammar.specs.Refusals.{NoTree, AllTrees, Reached, Unreached}
-use Rattle.grammar.proofs.Dead.{Stuck, stuck-no-tree, gap-nonterminal, open-reached, reached-open}
+use Rattle.grammar.specs.Certificates.{Stuck, symbolSize, wordSize, Holds, othersSize}
+use Rattle.grammar.proofs.Dead.{stuck-no-tree, gap-nonterminal, open-reached, reached-open}
 use Rattle.grammar.proofs.Search.{member?, some-below}
-use Rattle.grammar.proofs.Certificate.{symbolSize, wordSize, symbol-nonterminal, symbol-terminal}
-use Rattle.grammar.proofs.ContextCertificate.{Holds, gap-holds, othersSize, least-gap}
+use Rattle.grammar.proofs.Certificate.{symbol-nonterminal, symbol-terminal}
+use Rattle.grammar.proofs.ContextCertificate.{gap-holds, least-gap}
 use Rattle.grammar.proofs.LeastsExist.{leasts-exist}
-use Rattle.grammar.proofs.Cap.{Cap, cap-cap, cap-same}
-use Rattle.grammar.proofs.CappedLeasts.{CappedCertificate, OfTree, certificate-trees, capped-certificate}
-use Rattle.grammar.proofs.CappedContexts.{CappedContextCertificate, OfOpen, others-caps}
+use Rattle.grammar.specs.Caps.{Cap}
+use Rattle.grammar.proofs.Cap.{cap-cap, cap-same}
+use Rattle.grammar.specs.Caps.{CappedCertificate, OfTree}
+use Rattle.grammar.proofs.CappedLeasts.{certificate-trees, capped-certificate}
+use Rattle.grammar.specs.Caps.{CappedContextCertificate, OfOpen}
+use Rattle.grammar.specs.Caps.{LeastsAtRest, ContextsAtRest}
+use Rattle.grammar.proofs.CappedContexts.{others-caps}
 
 module _ (c : Cost) (κ : Cap c) (g : Grammar) (v : ℕ → c .C) where
   open Cost c using (C, 𝟎, _⊕_, _≼_, once)
@@ -49,12 +54,7 @@ module _ (c : Cost) (κ : Cap c) (g : Grammar) (v : ℕ → c .C) where
 
   -- Has A: A has a figure, v(A). A rule whose nonterminals all have figures has one at its left side, and does not improve it.
   module _ (Has : ℕ → Type 0) where
-    pub record LeastsAtRest : Type 0 where
-      pub figure : (A : ℕ) → A < g .N → Has A → OfTree c κ g A (v A)
-      pub quiet : (k A : ℕ) (w : List ℕ) → RuleAt g k A w → ((B : ℕ) → B ∈ w → B < g .N → Has B) →
-          Has A × (v A ≼ cap (once ⊕ wordSize c g v w))
-
-    pub rest-certificate : LeastsAtRest → ((A : ℕ) → A < g .N → Has A) → CappedCertificate c κ g v
+    pub rest-certificate : LeastsAtRest c κ g v Has → ((A : ℕ) → A < g .N → Has A) → CappedCertificate c κ g v
     rest-certificate rest all = record {
       below = λ k A w r. rest .quiet k A w r (λ B m lt. all B lt) .1;
       of-tree = λ A lt. rest .figure A lt (all A lt);
@@ -63,7 +63,7 @@ module _ (c : Cost) (κ : Cap c) (g : Grammar) (v : ℕ → c .C) where
     -- No rule of a nonterminal without a figure has a figure at each of its nonterminals, or its left side would have one: so it
     -- names another nonterminal without a figure. These are stuck, and have no tree. What has a figure has a tree, the one that
     -- the figure is the capped cost of.
-    module _ (has? : (A : ℕ) → Dec (Has A)) (rest : LeastsAtRest) where
+    module _ (has? : (A : ℕ) → Dec (Has A)) (rest : LeastsAtRest c κ g v Has) where
       missing? : (w : List ℕ) → Dec ((B : ℕ) × (B < g .N) × (B ∈ w × ¬ Has B))
       missing? w = some-below (λ B. B ∈ w × ¬ Has B) (λ B. go B (member? B w) (has? B)) (g .N)
         where
@@ -97,14 +97,7 @@ module _ (c : Cost) (κ : Cap c) (g : Grammar) (v : ℕ → c .C) where
   -- THE SAME FOR CONTEXTS. Has A: A has a context figure, u(A). A rule whose left side has one has one at each place that holds a
   -- nonterminal, and does not improve it.
   module _ (u : ℕ → C) (Has : ℕ → Type 0) where
-    pub record ContextsAtRest : Type 0 where
-      pub start : Has (g .start)
-      pub at-start : u (g .start) ≡ 𝟎
-      pub figure : (A : ℕ) → A < g .N → Has A → OfOpen c κ g A (u A)
-      pub quiet : (k B : ℕ) (w : List ℕ) (i A : ℕ) → RuleAt g k B w → Has B → Holds w i A → A < g .N →
-          Has A × (u A ≼ cap (u B ⊕ (once ⊕ othersSize c g v w i)))
-
-    pub rest-context-certificate : ContextsAtRest → ((A : ℕ) → A < g .N → Has A) → CappedContextCertificate c κ g v u
+    pub rest-context-certificate : ContextsAtRest c κ g v u Has → ((A : ℕ) → A < g .N → Has A) → CappedContextCertificate c κ g v u
     rest-context-certificate rest all = record {
       at-start = rest .at-start;
       below = λ k B w i A r p lt. rest .quiet k B w i A r (all B (r .left)) p lt .1;
@@ -113,7 +106,7 @@ module _ (c : Cost) (κ : Cap c) (g : Grammar) (v : ℕ → c .C) where
 
     -- Along an open tree each nonterminal, from the start to the open leaf, has a figure. Where all have trees, what is reached
     -- has an open tree; so it has a figure.
-    module _ (trees : AllTrees g) (rest : ContextsAtRest) where
+    module _ (trees : AllTrees g) (rest : ContextsAtRest c κ g v u Has) where
       open-has : {A : ℕ} → Open g A → Has A
       open-has root = rest .start
       open-has (down {A} {B} {i} {w} k r t a) = rest .quiet k B w i A r (open-has t) (gap-holds a) (gap-nonterminal a) .0

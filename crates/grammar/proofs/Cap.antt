@@ -2,41 +2,10 @@
 -- and capped again is the cap of the sum. A limit is a property of costs that the cap decides, and below which the cap changes
 -- nothing. Document 01's measure is capped at L + 1 for the limit L: the sums never wrap, and are above L exactly where the true
 -- ones are. Assumes nothing.
-use Prim.Native.Nat.{ℕ, suc, _<_, min}
 use native.Mathlib.Omega.{arith}
 use mathlib.Core.Path.{_≡_, ap, _∙_}
-use mathlib.Core.Logic.{_↔_}
-use Rattle.grammar.specs.Measure.{Cost, plain}
-
-pub record Cap (c : Cost) : Type 0 where
-  pub cap : c .C → c .C
-  pub cap-zero : cap (c .𝟎) ≡ c .𝟎
-  pub cap-mono : {x y : c .C} → c ._≼_ x y → c ._≼_ (cap x) (cap y)
-  pub cap-sum : (x y : c .C) → cap (c ._⊕_ x y) ≡ cap (c ._⊕_ (cap x) (cap y))
-
--- Over is kept by sums, not by ≼: costs may be compared by one part first and limited by their whole.
-pub record Limit (c : Cost) (κ : Cap c) : Type 1 where
-  pub Over : c .C → Type 0
-  pub decided : (x : c .C) → Over (κ .cap x) ↔ Over x
-  pub exact : (x : c .C) → ¬ Over x → κ .cap x ≡ x
-  pub over-sum : (x y : c .C) → Over x → Over (c ._⊕_ x y)
-
--- at the limit L: a sum that would pass L + 1 stays there
-abbrev pub plainCap : ℕ → Cap plain
-plainCap L = record {
-  cap = λ x. min x (suc L);
-  cap-zero = omega arith;
-  cap-mono = λ h. omega arith;
-  cap-sum = λ x y. omega arith;
-}
-
-abbrev pub plainLimit : (L : ℕ) → Limit plain (plainCap L)
-plainLimit L = record {
-  Over = λ x. L < x;
-  decided = λ x. (λ h. omega arith, λ h. omega arith);
-  exact = λ x h. omega arith;
-  over-sum = λ x y h. omega arith;
-}
+use Rattle.grammar.specs.Measure.{Cost}
+use Rattle.grammar.specs.Caps.{Cap, Limit}
 
 module _ {c : Cost} (κ : Cap c) where
   open Cost c using (C, 𝟎, _⊕_, _≼_, assoc, unit, comm, mono)

@@ -12,23 +12,18 @@ use Rattle.grammar.specs.Least.{Context}
 use Rattle.grammar.specs.Refusals.{AllReached}
 use Rattle.grammar.proofs.Totals.{le-of-eq}
 use Rattle.grammar.proofs.Dead.{gap-nonterminal, open-reached}
-use Rattle.grammar.proofs.Certificate.{Leasts}
-use Rattle.grammar.proofs.ContextCertificate.{Holds, gap-holds, othersSize, gap-above}
-use Rattle.grammar.proofs.ContextCertificate.{ContextCertificate, Contexts, context-certificate}
+use Rattle.grammar.specs.Certificates.{Leasts, Holds, othersSize, ContextCertificate, Contexts}
+use Rattle.grammar.proofs.ContextCertificate.{gap-holds, gap-above, context-certificate}
 use Rattle.grammar.proofs.LeastsExist.{leasts-exist}
-use Rattle.grammar.proofs.Cap.{Cap, cap-cap, cap-same, cap-below}
-use Rattle.grammar.proofs.CappedLeasts.{CappedCertificate, certificate-trees, capped-certificate}
-use Rattle.grammar.proofs.CappedLeasts.{Caps, symbol-caps, word-caps}
+use Rattle.grammar.specs.Caps.{Cap, CappedCertificate, Caps, OfOpen, CappedContextCertificate}
+use Rattle.grammar.proofs.Cap.{cap-cap, cap-same, cap-below}
+use Rattle.grammar.proofs.CappedLeasts.{certificate-trees, capped-certificate, symbol-caps, word-caps}
 
 module _ (c : Cost) (κ : Cap c) (g : Grammar) where
   open Cost c using (C, 𝟎)
   open Cap κ using (cap, cap-zero)
 
-  -- y is the cap of what some open tree of A costs
-  abbrev pub OfOpen : ℕ → C → Type 0
-  OfOpen A y = (t : Open g A) × (y ≡ cap (openCost c t))
-
-  pub start-figure : OfOpen (g .start) 𝟎
+  pub start-figure : OfOpen c κ g (g .start) 𝟎
   unfolding openCost
   start-figure = (root, sym cap-zero)
 
@@ -38,13 +33,7 @@ module _ (c : Cost) (κ : Cap c) (g : Grammar) (v : ℕ → c .C) where
 
   infixl 60 _⊕_
   infix 40 _≼_
-  pub record CappedContextCertificate (u : ℕ → C) : Type 0 where
-    pub at-start : u (g .start) ≡ 𝟎
-    pub below : (k B : ℕ) (w : List ℕ) (i A : ℕ) → RuleAt g k B w → Holds w i A → A < g .N →
-        u A ≼ cap (u B ⊕ (once ⊕ othersSize c g v w i))
-    pub of-open : (A : ℕ) → A < g .N → OfOpen c κ g A (u A)
-
-  pub certificate-reached : (u : ℕ → C) → CappedContextCertificate u → AllReached g
+  pub certificate-reached : (u : ℕ → C) → CappedContextCertificate c κ g v u → AllReached g
   certificate-reached u cert A lt = open-reached (cert .of-open A lt .0)
 
   -- what v is the cap of, and the sizes beside a place by the one and by the other
@@ -59,7 +48,7 @@ module _ (c : Cost) (κ : Cap c) (g : Grammar) (v : ℕ → c .C) where
     -- there bound u(A) by the cap of u(B), which is at most the cap of the rest by induction, plus 1, plus the sizes by v of the
     -- other symbols; these have the cap of the sizes by the leasts, which are at most what the trees beside the open leaf cost.
     -- So u(A) is at most the cap of the context, and being the cap of some open tree's cost it is at least that.
-    module _ (leasts : Leasts c g x) (u : ℕ → C) (cert : CappedContextCertificate u) where
+    module _ (leasts : Leasts c g x) (u : ℕ → C) (cert : CappedContextCertificate c κ g v u) where
       open-above : {A : ℕ} (t : Open g A) → u A ≼ cap (openCost c t)
       unfolding openCost
       open-above root = le-of-eq c (cert .at-start ∙ sym cap-zero)
@@ -88,18 +77,18 @@ module _ (c : Cost) (κ : Cap c) (g : Grammar) (v : ℕ → c .C) where
           let e = cap-same κ outer (cap-same κ {x = once} refl (sym (others-caps w i))) in
           le-trans (le-of-eq c (capped A lt)) (le-trans (cap-mono (exact .below k B w i A r p lt)) (le-of-eq c e))
 
-      certifies : (u : ℕ → C) → Caps c κ g u y → CappedContextCertificate u
+      certifies : (u : ℕ → C) → Caps c κ g u y → CappedContextCertificate c κ g v u
       certifies u capped = record {
         at-start = capped (g .start) within ∙ ap cap (exact .at-start) ∙ cap-zero;
         below = place-below u capped;
         of-open = λ A lt. (contexts A lt .tree, capped A lt ∙ ap cap (sym (contexts A lt .costs)));
       }
 
-      pub capped-context-certificate : (u : ℕ → C) → CappedContextCertificate u ↔ Caps c κ g u y
+      pub capped-context-certificate : (u : ℕ → C) → CappedContextCertificate c κ g v u ↔ Caps c κ g u y
       capped-context-certificate u = (λ cert A lt. context-caps leasts u cert lt (contexts A lt), certifies u)
 
   -- CAPPED CONTEXTS
-  pub capped-context : CappedCertificate c κ g v → (u : ℕ → C) → CappedContextCertificate u →
+  pub capped-context : CappedCertificate c κ g v → (u : ℕ → C) → CappedContextCertificate c κ g v u →
       {A : ℕ} {x : C} → A < g .N → Context c g A x → u A ≡ cap x
   capped-context cert u certᵤ lt z =
       let (x, leasts) = leasts-exist c g (certificate-trees c κ g v cert) in

@@ -14,9 +14,10 @@ use Rattle.grammar.specs.Least.{Least}
 use Rattle.grammar.specs.Refusals.{AllTrees}
 use Rattle.grammar.proofs.SameListing.{tree-nonterminal}
 use Rattle.grammar.proofs.Totals.{le-of-eq}
-use Rattle.grammar.proofs.Certificate.{symbolSize, wordSize, symbol-nonterminal, symbol-terminal}
-use Rattle.grammar.proofs.Certificate.{Leasts, least-certificate}
-use Rattle.grammar.proofs.Cap.{Cap, cap-cap, cap-same, cap-below}
+use Rattle.grammar.specs.Certificates.{symbolSize, wordSize, Leasts}
+use Rattle.grammar.proofs.Certificate.{symbol-nonterminal, symbol-terminal, least-certificate}
+use Rattle.grammar.specs.Caps.{Cap, CappedCertificate, Caps}
+use Rattle.grammar.proofs.Cap.{cap-cap, cap-same, cap-below}
 
 module _ (c : Cost) (κ : Cap c) (g : Grammar) where
   open Cost c using (C, 𝟎, _⊕_, _≼_, once, le-refl, le-trans, le-antisym)
@@ -24,27 +25,15 @@ module _ (c : Cost) (κ : Cap c) (g : Grammar) where
 
   infixl 60 _⊕_
   infix 40 _≼_
-  -- y is the cap of what some tree of A costs
-  abbrev pub OfTree : ℕ → C → Type 0
-  OfTree A y = (t : Tree g A) × (y ≡ cap (treeCost c t))
-
-  pub record CappedCertificate (v : ℕ → C) : Type 0 where
-    pub below : (k A : ℕ) (w : List ℕ) → RuleAt g k A w → v A ≼ cap (once ⊕ wordSize c g v w)
-    pub of-tree : (A : ℕ) → A < g .N → OfTree A (v A)
-
-  -- the figures v are the caps of the figures x
-  abbrev pub Caps : (v x : ℕ → C) → Type 0
-  Caps v x = (A : ℕ) → A < g .N → v A ≡ cap (x A)
-
   -- then so are the sizes by v of those by x
-  pub symbol-caps : (v x : ℕ → C) → Caps v x → (s : ℕ) → cap (symbolSize c g v s) ≡ cap (symbolSize c g x s)
+  pub symbol-caps : (v x : ℕ → C) → Caps c κ g v x → (s : ℕ) → cap (symbolSize c g v s) ≡ cap (symbolSize c g x s)
   symbol-caps v x caps s = go (decLt s (g .N))
     where
       go : Dec (s < g .N) → cap (symbolSize c g v s) ≡ cap (symbolSize c g x s)
       go (yes lt) = cc (symbol-nonterminal c g v s lt, symbol-nonterminal c g x s lt, caps s lt, cap-cap κ (x s))
       go (no ge) = let le : g .N ≤ s = omega arith in cc (symbol-terminal c g v s le, symbol-terminal c g x s le)
 
-  pub word-caps : (v x : ℕ → C) → Caps v x → (w : List ℕ) → cap (wordSize c g v w) ≡ cap (wordSize c g x w)
+  pub word-caps : (v x : ℕ → C) → Caps c κ g v x → (w : List ℕ) → cap (wordSize c g v w) ≡ cap (wordSize c g x w)
   unfolding wordSize
   word-caps v x caps [] = refl
   word-caps v x caps (s ∷ w) = cap-same κ (symbol-caps v x caps s) (word-caps v x caps w)
@@ -53,7 +42,7 @@ module _ (c : Cost) (κ : Cap c) (g : Grammar) where
   -- tree's top rule; that grows with the caps of the rule's symbols, and these are, by induction, at most those of the trees
   -- under it. So v(A) is at most the cap of the least cost. It is the cap of some tree's cost, which is at least the least, so it
   -- is at least that.
-  module _ (v : ℕ → C) (cert : CappedCertificate v) where
+  module _ (v : ℕ → C) (cert : CappedCertificate c κ g v) where
     mutual
       unfolding treeCost wordSize
 
@@ -80,16 +69,16 @@ module _ (c : Cost) (κ : Cap c) (g : Grammar) where
 
   -- THE CERTIFICATE, both ways
   module _ (x : ℕ → C) (leasts : Leasts c g x) where
-    rule-below : (v : ℕ → C) → Caps v x → (k A : ℕ) (w : List ℕ) → RuleAt g k A w → v A ≼ cap (once ⊕ wordSize c g v w)
+    rule-below : (v : ℕ → C) → Caps c κ g v x → (k A : ℕ) (w : List ℕ) → RuleAt g k A w → v A ≼ cap (once ⊕ wordSize c g v w)
     rule-below v caps k A w r =
         let h : cap (x A) ≼ cap (once ⊕ wordSize c g x w) = cap-mono (least-certificate c g x .1 leasts .below k A w r) in
         le-trans (le-of-eq c (caps A (r .left))) (le-trans h (le-of-eq c (cap-same κ refl (sym (word-caps v x caps w)))))
 
-    certifies : (v : ℕ → C) → Caps v x → CappedCertificate v
+    certifies : (v : ℕ → C) → Caps c κ g v x → CappedCertificate c κ g v
     certifies v caps = record {
       below = rule-below v caps;
       of-tree = λ A lt. (leasts A lt .tree, caps A lt ∙ ap cap (sym (leasts A lt .costs)));
     }
 
-    pub capped-certificate : (v : ℕ → C) → CappedCertificate v ↔ Caps v x
+    pub capped-certificate : (v : ℕ → C) → CappedCertificate c κ g v ↔ Caps c κ g v x
     capped-certificate v = (λ cert A lt. capped-least v cert (leasts A lt), certifies v)

@@ -13,28 +13,20 @@ use Rattle.grammar.specs.Least.{Least, Context, Total}
 use Rattle.grammar.specs.Refusals.{Oversize, Fits, AllFit}
 use Rattle.grammar.proofs.LayoutExact.{rule-below}
 use Rattle.grammar.proofs.Unique.{total-unique}
-use Rattle.grammar.proofs.Certificate.{wordSize, symbol-nonterminal, rule-size}
-use Rattle.grammar.proofs.Certificate.{Leasts, Known, least-certificate}
-use Rattle.grammar.proofs.ContextCertificate.{Contexts}
+use Rattle.grammar.specs.Certificates.{wordSize, Leasts, Contexts}
+use Rattle.grammar.proofs.Certificate.{symbol-nonterminal, rule-size, Known, least-certificate}
 use Rattle.grammar.proofs.LeastsExist.{leasts-exist}
 use Rattle.grammar.proofs.ContextsExist.{contexts-exist}
-use Rattle.grammar.proofs.Cap.{Cap, Limit, plainCap, plainLimit, cap-cap, cap-same, part-left, part-right}
-use Rattle.grammar.proofs.CappedLeasts.{CappedCertificate, Caps, word-caps, certificate-trees, capped-certificate}
-use Rattle.grammar.proofs.CappedContexts.{CappedContextCertificate, certificate-reached, capped-context}
+use Rattle.grammar.specs.Caps.{Cap, Limit, plainCap, plainLimit, Caps, cappedTotal, CappedFigures, stoppedTotal}
+use Rattle.grammar.proofs.Cap.{cap-cap, cap-same, part-left, part-right}
+use Rattle.grammar.proofs.CappedLeasts.{word-caps, certificate-trees, capped-certificate}
+use Rattle.grammar.proofs.CappedContexts.{certificate-reached, capped-context}
 
 module _ (c : Cost) (κ : Cap c) (g : Grammar) (v u : ℕ → c .C) where
   open Cost c using (C, _⊕_, once)
   open Cap κ using (cap)
 
   infixl 60 _⊕_
-  -- of the rule A ⟶ w, by the figures
-  abbrev pub cappedTotal : ℕ → List ℕ → C
-  cappedTotal A w = cap (u A ⊕ (once ⊕ wordSize c g v w))
-
-  pub record CappedFigures : Type 0 where
-    pub leasts : CappedCertificate c κ g v
-    pub contexts : CappedContextCertificate c κ g v u
-
   -- the true figures, which the capped ones are the caps of
   record TrueFigures : Type 0 where
     least : ℕ → C
@@ -44,7 +36,7 @@ module _ (c : Cost) (κ : Cap c) (g : Grammar) (v u : ℕ → c .C) where
     least-caps : Caps c κ g v least
     context-caps : Caps c κ g u context
 
-  module _ (figures : CappedFigures) where
+  module _ (figures : CappedFigures c κ g v u) where
     true-figures : TrueFigures
     true-figures =
         let (x, leasts) = leasts-exist c g (certificate-trees c κ g v (figures .leasts)) in
@@ -76,7 +68,7 @@ module _ (c : Cost) (κ : Cap c) (g : Grammar) (v u : ℕ → c .C) where
     -- CAPPED TOTALS. The figures are the caps of the true ones, which exist, for the certificates give each nonterminal a tree
     -- and an open tree. The cap of a sum depends on the caps of its parts alone; so the capped total by the figures is that by
     -- the true ones, and these sum to the Total, which is one.
-    pub capped-total : {r A : ℕ} {w : List ℕ} {x : C} → RuleAt g r A w → Total c g r x → cappedTotal A w ≡ cap x
+    pub capped-total : {r A : ℕ} {w : List ℕ} {x : C} → RuleAt g r A w → Total c g r x → cappedTotal c κ g v u A w ≡ cap x
     capped-total {r} {A} {w} rule t =
         let outer : cap (u A) ≡ cap (context A) = ap cap (context-caps A (rule .left)) ∙ cap-cap κ (context A) in
         let size = cap-same κ {x = once} refl (word-caps c κ g v least least-caps w) in
@@ -85,21 +77,21 @@ module _ (c : Cost) (κ : Cap c) (g : Grammar) (v u : ℕ → c .C) where
     module _ (limit : Limit c κ) where
       open Limit limit using (Over, decided, exact)
 
-      not-over : {r A : ℕ} {w : List ℕ} → RuleAt g r A w → ¬ Over (cappedTotal A w) → ¬ Over (true-total A w)
+      not-over : {r A : ℕ} {w : List ℕ} → RuleAt g r A w → ¬ Over (cappedTotal c κ g v u A w) → ¬ Over (true-total A w)
       not-over {r} {A} {w} rule n o = n (rw (capped-total rule (is-total rule)) (decided (true-total A w) .1 o))
 
       -- OVER exactly where the Total is
-      pub over-exact : {r A : ℕ} {w : List ℕ} → RuleAt g r A w → Over (cappedTotal A w) ↔ ((x : C) × Total c g r x × Over x)
+      pub over-exact : {r A : ℕ} {w : List ℕ} → RuleAt g r A w → Over (cappedTotal c κ g v u A w) ↔ ((x : C) × Total c g r x × Over x)
       over-exact {r} {A} {w} rule = (to, from)
         where
-          to : Over (cappedTotal A w) → (x : C) × Total c g r x × Over x
+          to : Over (cappedTotal c κ g v u A w) → (x : C) × Total c g r x × Over x
           to o = (true-total A w, is-total rule, decided (true-total A w) .0 (rw (capped-total rule (is-total rule)) at o))
 
-          from : (x : C) × Total c g r x × Over x → Over (cappedTotal A w)
+          from : (x : C) × Total c g r x × Over x → Over (cappedTotal c κ g v u A w)
           from z = rw (capped-total rule (z .1)) (decided (z .0) .1 (z .2))
 
       -- and where it is not, the Total itself
-      pub within-exact : {r A : ℕ} {w : List ℕ} → RuleAt g r A w → ¬ Over (cappedTotal A w) → Total c g r (cappedTotal A w)
+      pub within-exact : {r A : ℕ} {w : List ℕ} → RuleAt g r A w → ¬ Over (cappedTotal c κ g v u A w) → Total c g r (cappedTotal c κ g v u A w)
       within-exact {r} {A} {w} rule n =
           rw (capped-total rule (is-total rule) ∙ exact (true-total A w) (not-over rule n)) (is-total rule)
 
@@ -120,7 +112,7 @@ module _ (c : Cost) (κ : Cap c) (g : Grammar) (v u : ℕ → c .C) where
           go later (inl e) = rw (e, ← symbol-nonterminal c g least s (rw e at lt)) (part-left κ limit n)
           go later (inr m′) = later m′
 
-      pub parts-exact : {r A : ℕ} {w : List ℕ} → RuleAt g r A w → ¬ Over (cappedTotal A w) → Context c g A (u A) × Known c g v w
+      pub parts-exact : {r A : ℕ} {w : List ℕ} → RuleAt g r A w → ¬ Over (cappedTotal c κ g v u A w) → Context c g A (u A) × Known c g v w
       parts-exact {r} {A} {w} rule n =
           let t = not-over rule n in
           let word = word-parts w (part-right κ limit (part-right κ limit t)) in
@@ -129,7 +121,7 @@ module _ (c : Cost) (κ : Cap c) (g : Grammar) (v u : ℕ → c .C) where
       -- Where no rule is over, the figures are the leasts and the contexts. The least of A is the size of some rule of A, its
       -- chosen one, and the context of A plus that size is the rule's Total; so the least of A and the context of A are parts of
       -- a sum that is not over, and are exact.
-      pub all-exact : ((r A : ℕ) (w : List ℕ) → RuleAt g r A w → ¬ Over (cappedTotal A w)) → Leasts c g v × Contexts c g v u
+      pub all-exact : ((r A : ℕ) (w : List ℕ) → RuleAt g r A w → ¬ Over (cappedTotal c κ g v u A w)) → Leasts c g v × Contexts c g v u
       all-exact none = (λ A lt. exact-least lt (parts A lt .1), λ A lt. exact-context lt (parts A lt .0))
         where
           parts : (A : ℕ) → A < g .N → (¬ Over (context A)) × (¬ Over (least A))
@@ -140,31 +132,28 @@ module _ (c : Cost) (κ : Cap c) (g : Grammar) (v u : ℕ → c .C) where
 
 -- REFUSAL 7, by sums that stop at 4,097
 module _ (g : Grammar) (v u : ℕ → ℕ) where
-  abbrev pub stoppedTotal : ℕ → List ℕ → ℕ
-  stoppedTotal = cappedTotal plain (plainCap 4096) g v u
-
   module _ (figures : CappedFigures plain (plainCap 4096) g v u) {r A : ℕ} {w : List ℕ} (rule : RuleAt g r A w) where
-    pub oversize-exact : (4096 < stoppedTotal A w) ↔ Oversize g r
+    pub oversize-exact : (4096 < stoppedTotal g v u A w) ↔ Oversize g r
     oversize-exact =
         let both = over-exact plain (plainCap 4096) g v u figures (plainLimit 4096) rule in
         (λ h. let z = both .0 h in record { total = z .0; is = z .1; above = z .2 }, λ o. both .1 (o .total, o .is, o .above))
 
-    pub fits-exact : (stoppedTotal A w ≤ 4096) ↔ Fits g r
+    pub fits-exact : (stoppedTotal g v u A w ≤ 4096) ↔ Fits g r
     fits-exact = (to, from)
       where
-        to : stoppedTotal A w ≤ 4096 → Fits g r
+        to : stoppedTotal g v u A w ≤ 4096 → Fits g r
         to h =
             let total = within-exact plain (plainCap 4096) g v u figures (plainLimit 4096) rule (λ o. omega arith) in
-            record { total = stoppedTotal A w; is = total; within = h }
+            record { total = stoppedTotal g v u A w; is = total; within = h }
 
-        from : Fits g r → stoppedTotal A w ≤ 4096
+        from : Fits g r → stoppedTotal g v u A w ≤ 4096
         from f = let l = f .within in omega (arith, capped-total plain (plainCap 4096) g v u figures rule (f .is))
 
   -- what 7 does not refuse has exact figures
   pub all-fit-exact : CappedFigures plain (plainCap 4096) g v u → AllFit g → Leasts plain g v × Contexts plain g v u
   all-fit-exact figures fit = all-exact plain (plainCap 4096) g v u figures (plainLimit 4096) within
     where
-      within : (r A : ℕ) (w : List ℕ) → RuleAt g r A w → ¬ (4096 < stoppedTotal A w)
+      within : (r A : ℕ) (w : List ℕ) → RuleAt g r A w → ¬ (4096 < stoppedTotal g v u A w)
       within r A w rule o =
-          let l : stoppedTotal A w ≤ 4096 = fits-exact figures rule .1 (fit r (rule-below (g .rules) r _ (rule .stands))) in
+          let l : stoppedTotal g v u A w ≤ 4096 = fits-exact figures rule .1 (fit r (rule-below (g .rules) r _ (rule .stands))) in
           omega arith

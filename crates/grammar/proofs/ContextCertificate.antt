@@ -16,16 +16,17 @@ use mathlib.Core.List.{List, [], _∷_}
 use Rattle.grammar.specs.Words.{Grammar, RuleAt}
 use Rattle.grammar.specs.Tree.{Gap, here, past-leaf, past-child, Open, root, down}
 use Rattle.grammar.specs.Measure.{Cost, gapCost, openCost}
-use Rattle.grammar.specs.Least.{Context, Beside, at-place, past-terminal, past-nonterminal, Candidate}
+use Rattle.grammar.specs.Least.{Beside, at-place, past-terminal, past-nonterminal, Candidate}
 use Rattle.grammar.proofs.ConstructorsDiffer.{none-not-some}
 use Rattle.grammar.proofs.BySize.{by-size}
 use Rattle.grammar.proofs.CostOrder.{le-of-eq, rank-of-context}
 use Rattle.grammar.proofs.OpenEach.{CarriesGap, gap-of}
 use Rattle.grammar.proofs.SameListing.{tree-nonterminal}
 use Rattle.grammar.proofs.Dead.{gap-nonterminal}
-use Rattle.grammar.proofs.Certificate.{symbolSize, wordSize, symbol-nonterminal, symbol-terminal, Leasts}
+use Rattle.grammar.specs.Certificates.{symbolSize, Leasts}
+use Rattle.grammar.specs.Certificates.{Holds, othersSize, Attained, ContextCertificate, Contexts}
+use Rattle.grammar.proofs.Certificate.{symbol-nonterminal, symbol-terminal}
 use Rattle.grammar.proofs.Certificate.{CostsFigure, CostsSizes, costs-carry, word-sizes, forest-least}
-pub use Rattle.grammar.proofs.Places.{Holds}
 
 -- a gap at place i of w, for A, is where w holds A
 pub gap-holds : {g : Grammar} {w : List ℕ} {i A : ℕ} → Gap g w i A → Holds w i A
@@ -38,31 +39,9 @@ module _ (c : Cost) (g : Grammar) (v : ℕ → c .C) where
 
   infixl 60 _⊕_
   infix 40 _≼_
-  -- the sizes of the symbols beside place i
-  unfoldable pub othersSize : List ℕ → ℕ → C
-  othersSize [] i = 𝟎
-  othersSize (s ∷ w) zero = wordSize c g v w
-  othersSize (s ∷ w) (suc i) = symbolSize c g v s ⊕ othersSize w i
-
-  -- some rule and place attain u(A)
-  abbrev pub Attained : (ℕ → C) → ℕ → Type 0
-  Attained u A =
-      (k : ℕ) × (B : ℕ) × (w : List ℕ) × (i : ℕ) × RuleAt g k B w × Holds w i A × (u A ≡ u B ⊕ (once ⊕ othersSize w i))
-
-  -- u is 𝟎 at the start, u(A) is at most what each rule and place that hold A come to, and is one of these
-  pub record ContextCertificate (u : ℕ → C) : Type 0 where
-    pub at-start : u (g .start) ≡ 𝟎
-    pub below : (k B : ℕ) (w : List ℕ) (i A : ℕ) → RuleAt g k B w → Holds w i A → A < g .N →
-        u A ≼ u B ⊕ (once ⊕ othersSize w i)
-    pub attained : (A : ℕ) → A < g .N → ¬ (A ≡ g .start) → Attained u A
-
-  -- each figure of u is the context of its nonterminal
-  abbrev pub Contexts : (ℕ → C) → Type 0
-  Contexts u = (A : ℕ) → A < g .N → Context c g A (u A)
-
   -- trees that cost their figures leave a gap that costs the sizes of the other symbols
   abbrev CostsOthers : (w : List ℕ) (i A : ℕ) → Gap g w i A → Type 0
-  CostsOthers w i A a = gapCost c a ≡ othersSize w i
+  CostsOthers w i A a = gapCost c a ≡ othersSize c g v w i
 
   gap-costs-carry : CarriesGap (CostsFigure c g v) (CostsSizes c g v) CostsOthers
   unfolding othersSize gapCost
@@ -74,7 +53,7 @@ module _ (c : Cost) (g : Grammar) (v : ℕ → c .C) where
 
   module _ (leasts : Leasts c g v) where
     -- what stands beside a gap costs at least the sizes of the other symbols
-    pub gap-above : {w : List ℕ} {i A : ℕ} (a : Gap g w i A) → othersSize w i ≼ gapCost c a
+    pub gap-above : {w : List ℕ} {i A : ℕ} (a : Gap g w i A) → othersSize c g v w i ≼ gapCost c a
     unfolding othersSize gapCost
     gap-above (here p f) = forest-least c g v leasts f
     gap-above (past-leaf {s} p a) = mono (le-of-eq c (symbol-terminal c g v s p)) (gap-above a)
@@ -83,22 +62,22 @@ module _ (c : Cost) (g : Grammar) (v : ℕ → c .C) where
         mono (le-trans (le-of-eq c (symbol-nonterminal c g v s lt)) (leasts s lt .smallest t)) (gap-above a)
 
     -- and wherever w holds a nonterminal there is a gap with just that cost
-    pub least-gap : (w : List ℕ) (i A : ℕ) → A < g .N → Holds w i A → (a : Gap g w i A) × (gapCost c a ≡ othersSize w i)
+    pub least-gap : (w : List ℕ) (i A : ℕ) → A < g .N → Holds w i A → (a : Gap g w i A) × (gapCost c a ≡ othersSize c g v w i)
     least-gap = gap-of (costs-carry c g v) gap-costs-carry (λ A lt. (leasts A lt .tree, leasts A lt .costs))
 
     -- in the terms of specs/Least
-    pub others-beside : (w : List ℕ) (i A : ℕ) → A < g .N → Holds w i A → Beside c g w i A (othersSize w i)
+    pub others-beside : (w : List ℕ) (i A : ℕ) → A < g .N → Holds w i A → Beside c g w i A (othersSize c g v w i)
     unfolding othersSize
     others-beside [] i A lt h = absurd (none-not-some h)
     others-beside (s ∷ w) zero A lt h = let e : s ≡ A = cc in rw e (at-place lt (word-sizes c g v leasts w))
     others-beside (s ∷ w) (suc i) A lt h = go (decLt s (g .N)) (others-beside w i A lt h)
       where
-        go : Dec (s < g .N) → Beside c g w i A (othersSize w i) →
-            Beside c g (s ∷ w) (suc i) A (symbolSize c g v s ⊕ othersSize w i)
+        go : Dec (s < g .N) → Beside c g w i A (othersSize c g v w i) →
+            Beside c g (s ∷ w) (suc i) A (symbolSize c g v s ⊕ othersSize c g v w i)
         go (yes l) b = rw (symbol-nonterminal c g v s l) (past-nonterminal l (leasts s l) b)
         go (no ge) b = let le : g .N ≤ s = omega arith in rw (symbol-terminal c g v s le) (past-terminal le b)
 
-    module _ (u : ℕ → C) (cert : ContextCertificate u) where
+    module _ (u : ℕ → C) (cert : ContextCertificate c g v u) where
       open-above : {A : ℕ} (x : Open g A) → u A ≼ openCost c x
       unfolding openCost
       open-above root = le-of-eq c (cert .at-start)
@@ -122,16 +101,16 @@ module _ (c : Cost) (g : Grammar) (v : ℕ → c .C) where
               let (a, e₂) = least-gap w i A lt p in
               (down k r x a, cc)
 
-      certified : Contexts u
+      certified : Contexts c g v u
       certified A lt = let (x, e) = attaining-open A lt in record { tree = x; costs = e; smallest = open-above }
 
-    module _ (u : ℕ → C) (within : g .start < g .N) (contexts : Contexts u) where
+    module _ (u : ℕ → C) (within : g .start < g .N) (contexts : Contexts c g v u) where
       start-zero : u (g .start) ≡ 𝟎
       unfolding openCost
       start-zero = le-antisym (contexts (g .start) within .smallest root) (least (u (g .start)))
 
       place-above : (k B : ℕ) (w : List ℕ) (i A : ℕ) → RuleAt g k B w → Holds w i A → A < g .N →
-          u A ≼ u B ⊕ (once ⊕ othersSize w i)
+          u A ≼ u B ⊕ (once ⊕ othersSize c g v w i)
       unfolding openCost
       place-above k B w i A r p lt =
           let (a, e) = least-gap w i A lt p in
@@ -139,7 +118,7 @@ module _ (c : Cost) (g : Grammar) (v : ℕ → c .C) where
           let e′ = z .costs in
           le-trans (contexts A lt .smallest (down k r (z .tree) a)) (le-of-eq c cc)
 
-      last-attains : {A : ℕ} (x : Open g A) → openCost c x ≡ u A → ¬ (A ≡ g .start) → Attained u A
+      last-attains : {A : ℕ} (x : Open g A) → openCost c x ≡ u A → ¬ (A ≡ g .start) → Attained c g v u A
       unfolding openCost
       last-attains root e d = absurd (d refl)
       last-attains (down {A} {B} {i} {w} k r x a) e d =
@@ -147,7 +126,7 @@ module _ (c : Cost) (g : Grammar) (v : ℕ → c .C) where
           let parts = mono (contexts B (r .left) .smallest x) (mono (le-refl once) (gap-above a)) in
           (k, B, w, i, r, gap-holds a, le-antisym above (le-trans parts (le-of-eq c e)))
 
-      certifies : ContextCertificate u
+      certifies : ContextCertificate c g v u
       certifies = record {
         at-start = start-zero;
         below = place-above;
@@ -156,18 +135,18 @@ module _ (c : Cost) (g : Grammar) (v : ℕ → c .C) where
 
       -- what a rule and a place come to
       pub candidate : (k B : ℕ) (w : List ℕ) (i A : ℕ) → RuleAt g k B w → Holds w i A → A < g .N →
-          Candidate c g A k i (u B ⊕ (once ⊕ othersSize w i))
+          Candidate c g A k i (u B ⊕ (once ⊕ othersSize c g v w i))
       candidate k B w i A r p lt = record {
         B = B;
         w = w;
         rule = r;
         outer = u B;
         context = contexts B (r .left);
-        others = othersSize w i;
+        others = othersSize c g v w i;
         beside = others-beside w i A lt p;
         is = refl;
       }
 
     -- THE CERTIFICATE: figures pass the local tests exactly where they are the contexts
-    pub context-certificate : (u : ℕ → C) → g .start < g .N → ContextCertificate u ↔ Contexts u
+    pub context-certificate : (u : ℕ → C) → g .start < g .N → ContextCertificate c g v u ↔ Contexts c g v u
     context-certificate u within = (certified u, certifies u within)

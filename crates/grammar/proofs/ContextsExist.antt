@@ -19,13 +19,13 @@ use Rattle.grammar.specs.Least.{Context}
 use Rattle.grammar.specs.Refusals.{Reached, AllReached}
 use Rattle.grammar.proofs.RuleNumbers.{rule-left, rule-right, rule-below, rule-number, RuleOrNone, rule?}
 use Rattle.grammar.proofs.CostOrder.{le-of-eq, at-most-left}
-use Rattle.grammar.proofs.Places.{ElementOrNone, element?, Holds, place-of}
+use Rattle.grammar.proofs.Places.{ElementOrNone, element?, place-of}
+use Rattle.grammar.specs.Certificates.{Holds, Closed, Leasts, othersSize, Contexts}
 use Rattle.grammar.proofs.Totals.{context-start}
-use Rattle.grammar.proofs.Dead.{Closed, closed-reached, gap-nonterminal, open-reached}
+use Rattle.grammar.proofs.Dead.{closed-reached, gap-nonterminal, open-reached}
 use Rattle.grammar.proofs.Search.{member?, upto, in-upto, Except, except, Smallest, NoOffer, Best, smallest}
 use Rattle.grammar.proofs.Settles.{Settled, Made, Halt, settles, settled-or-left}
-use Rattle.grammar.proofs.Certificate.{Leasts}
-use Rattle.grammar.proofs.ContextCertificate.{gap-holds, othersSize, gap-above, least-gap, Contexts}
+use Rattle.grammar.proofs.ContextCertificate.{gap-holds, gap-above, least-gap}
 
 -- a place that holds a symbol is below the length
 pub holds-below : (w : List ℕ) (i A : ℕ) → Holds w i A → i < length w

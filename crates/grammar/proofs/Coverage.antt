@@ -15,6 +15,7 @@ use Rattle.grammar.specs.Derivation.{Terminals, Step, step, Steps, none,
 use Rattle.grammar.specs.Derivation.{Through, Start, L, Derives, ProductionCoverage}
 use Rattle.grammar.specs.Tree.{Tree, Forest, node, nil, leaf, child, sentence, sentences, derivation, derivations, Uses}
 use Rattle.grammar.specs.Tree.{_∈_}
+use Rattle.grammar.specs.Derivation.{PrintedThrough}
 use Rattle.grammar.proofs.EverySymbol.{all-append, all-first, all-second, all-both}
 use Rattle.grammar.proofs.LayoutExact.{rule-symbols}
 use Rattle.grammar.proofs.Leftmosts.{tree-leftmost, forest-leftmost, derives-tree}
@@ -124,17 +125,6 @@ module _ {g : Grammar} where
   -- WITNESS: a tree of the start that uses rule k has a sentence as Definition 2.10 asks for k
   pub use-witnesses : {k : ℕ} (t : Tree g (g .start)) → Uses k t → Through g k (Start g) (sentence t)
   use-witnesses t m = tree-through t m
-
--- σ ⇒* γAβ ⇒* γαβ ⇒* t, where A ⟶ α is the rule of number k: the form that the thesis prints, with ⇒* in the middle
-pub record PrintedThrough (g : Grammar) (k : ℕ) (σ t : List ℕ) : Type 0 where
-  pub A : ℕ
-  pub α : List ℕ
-  pub γ : List ℕ
-  pub β : List ℕ
-  pub rule : RuleAt g k A α
-  pub reaches : Steps g σ (γ ++ A ∷ β)
-  pub applies : Steps g (γ ++ A ∷ β) (γ ++ (α ++ β))
-  pub finishes : Steps g (γ ++ (α ++ β)) t
 
 -- PRINTED: one step of the rule implies the printed form
 pub through-printed : {g : Grammar} {k : ℕ} {σ t : List ℕ} → Through g k σ t → PrintedThrough g k σ t

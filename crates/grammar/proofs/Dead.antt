@@ -11,21 +11,18 @@ use mathlib.Core.Path.{_≡_, refl, sym, ap, subst}
 use mathlib.Core.Logic.{_⊎_, inl, inr, _↔_}
 use mathlib.Core.List.{List, [], _∷_, _++_, append-assoc, List·Memᴰ·head, List·Memᴰ·tail, List·Memᴰ·cases-cons}
 use mathlib.Core.List.{List·Memᴰ·append-cases, List·Memᴰ·not-nil, Memᴰ·append-left, Memᴰ·append-right}
-use Rattle.grammar.specs.Words.{Grammar, RuleAt}
+use Rattle.grammar.specs.Words.{Grammar}
 use Rattle.grammar.specs.Derivation.{Step, step, Steps, none, more, Start}
 use Rattle.grammar.specs.Tree.{Tree, Forest, Gap, here, past-leaf, past-child, Open, root, down, plug, StandsIn, _∈_}
 use Rattle.grammar.specs.Refusals.{AllTrees, Reached, AllReached}
-use Rattle.grammar.proofs.Places.{Holds, place-of}
+use Rattle.grammar.specs.Certificates.{Holds, Stuck, Closed}
+use Rattle.grammar.proofs.Places.{place-of}
 use Rattle.grammar.proofs.OpenEach.{Carries, CarriesGap, forest-of, gap-of}
 use Rattle.grammar.proofs.AlongMembers.{along-members}
 use Rattle.grammar.proofs.Coverage.{steps-trans}
 
 module _ (g : Grammar) where
-  -- every rule of a member names a member
-  pub record Stuck (D : ℕ → Type 0) : Type 0 where
-    pub names : (k A : ℕ) (w : List ℕ) → RuleAt g k A w → D A → (B : ℕ) × B ∈ w × B < g .N × D B
-
-  module _ (D : ℕ → Type 0) (stuck : Stuck D) where
+  module _ (D : ℕ → Type 0) (stuck : Stuck g D) where
     -- NO TREE: a tree of a member would have one of a member under it, and so on without end
     pub stuck-no-tree : {A : ℕ} → D A → Tree g A → ⊥
     stuck-no-tree d t = along-members D (λ A u. ⊥) (λ w f. ⊥) (record {
@@ -35,12 +32,7 @@ module _ (g : Grammar) where
       past-leaf = λ s w p f h. h;
     }) t d
 
-  -- the start is a member, and each nonterminal that a rule of a member names
-  pub record Closed (U : ℕ → Type 0) : Type 0 where
-    pub start : U (g .start)
-    pub names : (k B : ℕ) (w : List ℕ) (A : ℕ) → RuleAt g k B w → U B → A ∈ w → A < g .N → U A
-
-  module _ (U : ℕ → Type 0) (closed : Closed U) where
+  module _ (U : ℕ → Type 0) (closed : Closed g U) where
     abbrev Inside : List ℕ → Type 0
     Inside σ = (A : ℕ) → A ∈ σ → A < g .N → U A
 

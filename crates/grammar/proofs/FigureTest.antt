@@ -13,13 +13,12 @@ use lib.Dec.{ltb, leb, eqb}
 use lib.ListN.{getElem?}
 use borrow.Author.Tests.{ltb-true, leb-true, eqb-true}
 use Rattle.grammar.specs.Words.{Grammar, Rule, _⟶_, RuleAt, InBounds}
-use Rattle.grammar.proofs.ContextCertificate.{Holds}
-use Rattle.grammar.proofs.FigureCertificate.{Figures, AreFigures, sizeBy, besideBy, Attains, Leads}
-use Rattle.grammar.proofs.FigureCertificate.{FigureCertificate, figure-certificate}
-
--- TESTS. x is below y, or they are equal and b: with x smallest, b is asked where it is attained
-abbrev pub firstly : ℕ → ℕ → Bool → Bool
-firstly x y b = ltb x y || (eqb x y && b)
+use Rattle.grammar.specs.Certificates.{Holds}
+use Rattle.grammar.specs.Certificates.{Figures, AreFigures, sizeBy, besideBy, Attains, Leads}
+use Rattle.grammar.specs.Certificates.{FigureCertificate}
+use Rattle.grammar.specs.FigureTests.{firstly, every, each, there}
+use Rattle.grammar.specs.FigureTests.{place-test, rule-test, chosen-test, choice-test, chosen-passes, choice-passes, figures?}
+use Rattle.grammar.proofs.FigureCertificate.{figure-certificate}
 
 firstly-holds : (x y : ℕ) (b : Bool) → So (firstly x y b) → (x < y) ⊎ ((x ≡ y) × So b)
 firstly-holds x y b t = go (ltb x y) refl t
@@ -42,11 +41,6 @@ firstly-equal x y b t e = go (firstly-holds x y b t)
     go (inl l) = absurd (omega arith)
     go (inr z) = z .1
 
--- of each element of a list, with its number
-abbrev pub every : {X : Type 0} → (ℕ → X → Bool) → List X → Bool
-every f [] = true
-every f (x ∷ xs) = f 0 x && every (λ i. f (suc i)) xs
-
 every-at : {X : Type 0} (f : ℕ → X → Bool) (xs : List X) → So (every f xs) →
     (i : ℕ) (x : X) → getElem? xs i ≡ some x → So (f i x)
 every-at f [] t i x e = absurd (let z : _≡_ {A = ℕ} 0 1 = cc in omega arith)
@@ -55,11 +49,6 @@ every-at f (y ∷ xs) t zero x e =
 every-at f (y ∷ xs) t (suc i) x e =
     every-at (λ i. f (suc i)) xs (and-eq-true-iff (f 0 y) (every (λ i. f (suc i)) xs) .0 t .1) i x e
 
--- of each number below n
-abbrev pub each : (ℕ → Bool) → ℕ → Bool
-each f zero = true
-each f (suc n) = f n && each f n
-
 pub each-at : (f : ℕ → Bool) (n : ℕ) → So (each f n) → (k : ℕ) → k < n → So (f k)
 each-at f zero t k l = absurd (omega arith)
 each-at f (suc n) t k l = let z = and-eq-true-iff (f n) (each f n) .0 t in go (decLt k n) (each-at f n (z .1) k) (z .0)
@@ -67,11 +56,6 @@ each-at f (suc n) t k l = let z = and-eq-true-iff (f n) (each f n) .0 t in go (d
     go : Dec (k < n) → (k < n → So (f k)) → So (f n) → So (f k)
     go (yes h) again last = again h
     go (no h) again last = let e : k ≡ n = omega arith in rw e last
-
--- of what is there
-abbrev pub there : {X : Type 0} → (X → Bool) → Option X → Bool
-there f none = false
-there f (some x) = f x
 
 there-holds : {X : Type 0} (f : X → Bool) (o : Option X) → So (there f o) → (x : X) × (o ≡ some x) × So (f x)
 there-holds f none t = absurd (let z : _≡_ {A = ℕ} 0 1 = cc in omega arith)
@@ -90,50 +74,24 @@ module _ (g : Grammar) (F : Figures) where
   abbrev beside : List ℕ → ℕ → ℕ
   beside = besideBy g F
 
-  -- at place i of rule k, B ⟶ w, which holds A
-  abbrev pub place-test : ℕ → ℕ → List ℕ → ℕ → ℕ → Bool
-  place-test k B w i A = leb (g .N) A || firstly (context A) (context B + beside w i) (firstly (rule A) k (leb (place A) i))
-
-  abbrev pub rule-test : ℕ → Rule → Bool
-  rule-test k (B ⟶ w) =
-      firstly (least B) (size w) (leb (chosen B) k) && (eqb (total k) (context B + size w) && every (place-test k B w) w)
-
-  -- the rule of the choice is one of A, of the least size
-  abbrev pub chosen-test : ℕ → Rule → Bool
-  chosen-test A (B ⟶ w) = eqb B A && eqb (least A) (size w)
-
-  -- the rule of the context choice has A at the place, and comes to the context
-  abbrev pub choice-test : ℕ → Rule → Bool
-  choice-test A (B ⟶ w) =
-      ltb B (g .N) && (there (eqb A) (getElem? w (place A)) && eqb (context A) (context B + beside w (place A)))
-
-  abbrev pub chosen-passes : ℕ → Bool
-  chosen-passes A = there (chosen-test A) (getElem? (g .rules) (chosen A))
-
-  abbrev pub choice-passes : ℕ → Bool
-  choice-passes A = eqb A (g .start) || there (choice-test A) (getElem? (g .rules) (rule A))
-
-  abbrev pub figures? : Bool
-  figures? = eqb (context (g .start)) 0 && (every rule-test (g .rules) && each (λ A. chosen-passes A && choice-passes A) (g .N))
-
-  module _ (passes : So figures?) where
+  module _ (passes : So (figures? g F)) where
     at-start : context (g .start) ≡ 0
     at-start = eqb-true _ 0 (and-eq-true-iff (eqb (context (g .start)) 0) _ .0 passes .0)
 
-    both : So (every rule-test (g .rules)) × So (each (λ A. chosen-passes A && choice-passes A) (g .N))
+    both : So (every (rule-test g F) (g .rules)) × So (each (λ A. chosen-passes g F A && choice-passes g F A) (g .N))
     both = and-eq-true-iff _ _ .0 (and-eq-true-iff (eqb (context (g .start)) 0) _ .0 passes .1)
 
-    choices-pass : (A : ℕ) → A < g .N → So (chosen-passes A) × So (choice-passes A)
+    choices-pass : (A : ℕ) → A < g .N → So (chosen-passes g F A) × So (choice-passes g F A)
     choices-pass A lt =
-        and-eq-true-iff (chosen-passes A) _ .0 (each-at (λ A. chosen-passes A && choice-passes A) (g .N) (both .1) A lt)
+        and-eq-true-iff (chosen-passes g F A) _ .0 (each-at (λ A. chosen-passes g F A && choice-passes g F A) (g .N) (both .1) A lt)
 
-    rule-passes : (k B : ℕ) (w : List ℕ) → RuleAt g k B w → So (rule-test k (B ⟶ w))
-    rule-passes k B w r = every-at rule-test (g .rules) (both .0) k (B ⟶ w) (r .stands)
+    rule-passes : (k B : ℕ) (w : List ℕ) → RuleAt g k B w → So (rule-test g F k (B ⟶ w))
+    rule-passes k B w r = every-at (rule-test g F) (g .rules) (both .0) k (B ⟶ w) (r .stands)
 
     size-passes : (k B : ℕ) (w : List ℕ) → RuleAt g k B w → So (firstly (least B) (size w) (leb (chosen B) k))
     size-passes k B w r = and-eq-true-iff (firstly (least B) (size w) (leb (chosen B) k)) _ .0 (rule-passes k B w r) .0
 
-    others-pass : (k B : ℕ) (w : List ℕ) → RuleAt g k B w → (total k ≡ context B + size w) × So (every (place-test k B w) w)
+    others-pass : (k B : ℕ) (w : List ℕ) → RuleAt g k B w → (total k ≡ context B + size w) × So (every (place-test g F k B w) w)
     others-pass k B w r =
         let z = and-eq-true-iff (firstly (least B) (size w) (leb (chosen B) k)) _ .0 (rule-passes k B w r) .1 in
         let y = and-eq-true-iff (eqb (total k) (context B + size w)) _ .0 z in
@@ -142,13 +100,13 @@ module _ (g : Grammar) (F : Figures) where
     place-passes : (k B : ℕ) (w : List ℕ) (i A : ℕ) → RuleAt g k B w → Holds w i A → A < g .N →
         So (firstly (context A) (context B + beside w i) (firstly (rule A) k (leb (place A) i)))
     place-passes k B w i A r h lt =
-        let t = every-at (place-test k B w) w (others-pass k B w r .1) i A h in
+        let t = every-at (place-test g F k B w) w (others-pass k B w r .1) i A h in
         otherwise (leb (g .N) A) _ t (λ e. omega (arith, leb-true (g .N) A e))
 
     chosen-attains : (A : ℕ) → A < g .N → Attains g F A (chosen A)
-    chosen-attains A lt = go (there-holds (chosen-test A) (getElem? (g .rules) (chosen A)) (choices-pass A lt .0))
+    chosen-attains A lt = go (there-holds (chosen-test g F A) (getElem? (g .rules) (chosen A)) (choices-pass A lt .0))
       where
-        go : (ρ : Rule) × (getElem? (g .rules) (chosen A) ≡ some ρ) × So (chosen-test A ρ) → Attains g F A (chosen A)
+        go : (ρ : Rule) × (getElem? (g .rules) (chosen A) ≡ some ρ) × So (chosen-test g F A ρ) → Attains g F A (chosen A)
         go (B ⟶ w, e, t) =
             let z = and-eq-true-iff (eqb B A) (eqb (least A) (size w)) .0 t in
             let same : B ≡ A = eqb-true B A (z .0) in
@@ -157,9 +115,9 @@ module _ (g : Grammar) (F : Figures) where
     choice-attains : (A : ℕ) → A < g .N → ¬ (A ≡ g .start) → Leads g F A (rule A) (place A)
     choice-attains A lt other =
         let t = otherwise (eqb A (g .start)) _ (choices-pass A lt .1) (λ e. other (eqb-true A (g .start) e)) in
-        go (there-holds (choice-test A) (getElem? (g .rules) (rule A)) t)
+        go (there-holds (choice-test g F A) (getElem? (g .rules) (rule A)) t)
       where
-        go : (ρ : Rule) × (getElem? (g .rules) (rule A) ≡ some ρ) × So (choice-test A ρ) → Leads g F A (rule A) (place A)
+        go : (ρ : Rule) × (getElem? (g .rules) (rule A) ≡ some ρ) × So (choice-test g F A ρ) → Leads g F A (rule A) (place A)
         go (B ⟶ w, e, t) =
             let z = and-eq-true-iff (ltb B (g .N)) _ .0 t in
             let y = and-eq-true-iff (there (eqb A) (getElem? w (place A))) _ .0 (z .1) in

@@ -5,22 +5,12 @@ use mathlib.Core.Logic.{_↔_}
 use mathlib.Core.List.{List}
 use Prim.Native.Nat.{ℕ}
 use native.Mathlib.Omega.{arith}
-use Rattle.grammar.specs.Words.{Grammar, R, Judged, reads, faults, layout, FaultAt, InBounds, words}
-use Rattle.grammar.specs.Judge.{answerOf}
+use Rattle.grammar.specs.Words.{Grammar, R, Judged, reads, faults, layout, FaultAt}
+use Rattle.grammar.specs.Judge.{answerOf, WordsOf}
 use Rattle.grammar.specs.declared.layout.LayoutAnswer.{LayoutAnswer}
 use Rattle.grammar.specs.declared.layout.LayoutAnswer.the-variants as answer
 use Rattle.grammar.proofs.LayoutExact.{layout-exact}
 use Rattle.grammar.proofs.FirstOffence.{layout-faults-exact}
-
--- the words are those of a grammar within bounds that has these numbers
-pub record WordsOf (ws : List ℕ) (N T S n : ℕ) : Type 0 where
-  pub grammar : Grammar
-  pub ok : InBounds grammar
-  pub are : ws ≡ words grammar
-  pub nonterminals : grammar .N ≡ N
-  pub terminals : grammar .T ≡ T
-  pub start : grammar .start ≡ S
-  pub rules : R grammar ≡ n
 
 answer-faults : (j : Judged Grammar) (p : ℕ) → answerOf j ≡ answer.Fault p → j ≡ faults p
 answer-faults (reads g) p e = absurd (let z : _≡_ {A = ℕ} 0 1 = cc in omega arith)

@@ -19,10 +19,11 @@ use Rattle.grammar.specs.Refusals.{AllTrees}
 use Rattle.grammar.proofs.RuleNumbers.{rule-left, rule-right, rule-number, RuleOrNone}
 use Rattle.grammar.proofs.CostOrder.{le-of-eq, at-most-left, at-most-right}
 use Rattle.grammar.proofs.AlongMembers.{along-members}
-use Rattle.grammar.proofs.Dead.{Stuck, stuck-no-tree}
+use Rattle.grammar.specs.Certificates.{Stuck, wordSize, Leasts}
+use Rattle.grammar.proofs.Dead.{stuck-no-tree}
 use Rattle.grammar.proofs.Search.{member?, in-cons, Smallest, NoOffer, Best}
 use Rattle.grammar.proofs.Settles.{Settled, Made, Halt, settles, settled-or-left}
-use Rattle.grammar.proofs.Certificate.{wordSize, Leasts, known-forest, known-least}
+use Rattle.grammar.proofs.Certificate.{known-forest, known-least}
 pub use Rattle.grammar.proofs.RuleNumbers.{rule?}
 pub use Rattle.grammar.proofs.Search.{upto, in-upto}
 pub use Rattle.grammar.proofs.Settles.{put, put-here, put-there}

@@ -1,11 +1,9 @@
--- The final statements of this crate, each by one citation. A reader who believes specs/ and reads this page is done: what is
--- named here and stands in no file of specs/ is defined beside the law that it is for (certificates, stuck and closed sets, caps,
--- figures at rest).
+-- The final statements of this crate, each by one citation. A reader who believes specs/ and reads this page is done.
 -- Assumes nothing.
-use Prim.Native.Nat.{ℕ, zero, suc, _+_, _≤_, _<_}
+use Prim.Native.Nat.{ℕ, _+_, _≤_, _<_}
 use mathlib.Core.Path.{_≡_}
 use mathlib.Core.Logic.{_↔_}
-use mathlib.Core.List.{List, [], _∷_, _++_}
+use mathlib.Core.List.{List, [], _∷_}
 use lib.ListN.{length, getD}
 use denote.Ref.{RefT, now}
 use Rattle.grammar.specs.Words.{Grammar, R, RuleAt, placeOf, layout, reads, faults, FaultAt, InBounds, words}
@@ -14,7 +12,7 @@ use Rattle.grammar.specs.Tree.{Tree, sentence, derivation, Uses, StandsI
 use Rattle.grammar.specs.Measure.{Cost, plain, treeCost}
 use Rattle.grammar.specs.Least.{Least, Chosen, Context, ContextChoice, Total, TreeOf}
 use Rattle.grammar.specs.Refusals.{AllTrees, AllReached, Reached, NoTree, Unreached, Oversize, AllFit}
-use Rattle.grammar.specs.Judge.{answerOf, startsOf}
+use Rattle.grammar.specs.Judge.{answerOf, startsOf, WordsOf}
 use Rattle.grammar.specs.Walk.{WalkPlace, walkStart, stepAt, walkAt, takenFrom}
 use Rattle.grammar.specs.Rules.{rightAt}
 use Rattle.grammar.specs.declared.layout.LayoutAnswer.{LayoutAnswer}
@@ -30,32 +28,29 @@ use Rattle.grammar.proofs.Unique as Unique
 use Rattle.grammar.proofs.SameListing as SameListing
 use Rattle.grammar.proofs.Leftmosts as Leftmosts
 use Rattle.grammar.proofs.Replay as Replay
-use Rattle.grammar.proofs.Replay.{replay, derived, stopped}
+use Rattle.grammar.specs.Replaying.{replay, derived, stopped}
 use Rattle.grammar.proofs.Coverage as Coverage
-use Rattle.grammar.proofs.Coverage.{PrintedThrough}
+use Rattle.grammar.specs.Derivation.{PrintedThrough}
 use Rattle.grammar.proofs.AnyOrder as AnyOrder
 use Rattle.grammar.proofs.SizeIsLength as Size
 use Rattle.grammar.proofs.Totals as Totals
 use Rattle.grammar.proofs.Dead as Dead
-use Rattle.grammar.proofs.Dead.{Stuck, Closed}
+use Rattle.grammar.specs.Certificates.{Stuck, Closed, LeastCertificate, Leasts, ContextCertificate, Contexts}
 use Rattle.grammar.proofs.Certificate as Certificate
-use Rattle.grammar.proofs.Certificate.{LeastCertificate, Leasts}
 use Rattle.grammar.proofs.ContextCertificate as ContextCertificate
-use Rattle.grammar.proofs.ContextCertificate.{ContextCertificate, Contexts}
 use Rattle.grammar.proofs.TreeOfExists as Exists
-use Rattle.grammar.proofs.Cap.{Cap, Limit, plainCap}
+use Rattle.grammar.specs.Caps.{Cap, Limit, plainCap}
 use Rattle.grammar.proofs.CappedLeasts as CappedLeasts
-use Rattle.grammar.proofs.CappedLeasts.{CappedCertificate, Caps}
+use Rattle.grammar.specs.Caps.{CappedCertificate, Caps}
 use Rattle.grammar.proofs.CappedContexts as CappedContexts
-use Rattle.grammar.proofs.CappedContexts.{CappedContextCertificate}
+use Rattle.grammar.specs.Caps.{CappedContextCertificate}
 use Rattle.grammar.proofs.CappedTotals as CappedTotals
-use Rattle.grammar.proofs.CappedTotals.{CappedFigures, cappedTotal, stoppedTotal}
+use Rattle.grammar.specs.Caps.{CappedFigures, cappedTotal, stoppedTotal}
 use Rattle.grammar.proofs.AtRest as AtRest
-use Rattle.grammar.proofs.AtRest.{LeastsAtRest, ContextsAtRest}
+use Rattle.grammar.specs.Caps.{LeastsAtRest, ContextsAtRest}
 use Rattle.grammar.proofs.JudgeExact as JudgeExact
-use Rattle.grammar.proofs.JudgeExact.{WordsOf}
 use Rattle.grammar.proofs.WalkInOrder as WalkInOrder
-use Rattle.grammar.proofs.WalkInOrder.{HandsOut, NextHandsOut}
+use Rattle.grammar.specs.WalkOrder.{HandsOut, NextHandsOut}
 use Rattle.grammar.proofs.RulesByNumber as RulesByNumber
 use Rattle.grammar.proofs.CodeSettles as CodeSettles
 

@@ -12,7 +12,7 @@ use mathlib.Core.List.{List, [], _∷_, List·Memᴰ·head, List·Memᴰ·tail}
 use Rattle.grammar.specs.Words.{Grammar}
 use Rattle.grammar.specs.Tree.{Tree, Forest, nil, leaf, child, Gap, here, past-leaf, past-child, _∈_}
 use Rattle.grammar.proofs.ConstructorsDiffer.{none-not-some}
-use Rattle.grammar.proofs.Places.{Holds}
+use Rattle.grammar.specs.Certificates.{Holds}
 
 module _ {g : Grammar} (T : (A : ℕ) → Tree g A → Type 0) (F : (w : List ℕ) → Forest g w → Type 0) where
   -- F is had by a forest whose trees have T

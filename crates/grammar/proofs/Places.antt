@@ -9,6 +9,7 @@ use mathlib.Core.List.{List, [], _∷_, List·Memᴰ·cases-cons, List·Memᴰ·
 use mathlib.Core.Option.{Option, some, none}
 use lib.ListN.{getElem?}
 use Rattle.grammar.specs.Tree.{_∈_}
+use Rattle.grammar.specs.Certificates.{Holds}
 use Rattle.grammar.proofs.ConstructorsDiffer.{none-not-some}
 
 -- an element stands at place i of xs, or none does
@@ -21,10 +22,6 @@ element? {X} xs i = go (getElem? xs i) refl
     go : (o : Option X) → getElem? xs i ≡ o → ElementOrNone xs i
     go none e = inr (λ x h. none-not-some (rw e at h))
     go (some x) e = inl (x, e)
-
--- w holds A at place i
-abbrev pub Holds : List ℕ → ℕ → ℕ → Type 0
-Holds w i A = getElem? w i ≡ some A
 
 pub holds? : (w : List ℕ) (i A : ℕ) → Dec (Holds w i A)
 holds? w i A = go (element? w i)

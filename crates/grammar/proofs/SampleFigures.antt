@@ -1,22 +1,21 @@
 -- Document 01's sample tables and replays, of the definitions: each table by the test of figures, each replay by computing it.
 -- Assumes nothing.
-use Prim.Native.Nat.{ℕ, _+_, _*_, _≤_, _<_}
+use Prim.Native.Nat.{ℕ, _+_, _*_}
 use native.Mathlib.Omega.{arith}
 use mathlib.Core.Path.{_≡_, refl}
 use mathlib.Core.List.{List, [], _∷_}
 use lib.ListN.{getD}
-use Rattle.grammar.specs.Words.{Grammar, Rule, _⟶_, layout, lefts, reads}
+use Rattle.grammar.specs.Words.{layout, lefts, reads}
 use Rattle.grammar.specs.Derivation.{StopsAt}
 use Rattle.grammar.specs.Measure.{plain}
 use Rattle.grammar.specs.Least.{Least, Chosen}
 use Rattle.grammar.proofs.LayoutExact.{in-bounds}
-use Rattle.grammar.proofs.Replay.{replay, replayed, stepped, complete?, replay-stops}
-use Rattle.grammar.proofs.Certificate.{symbolSize, wordSize}
-use Rattle.grammar.proofs.ContextCertificate.{othersSize}
-use Rattle.grammar.proofs.FigureCertificate.{Figures, AreFigures}
+use Rattle.grammar.specs.Replaying.{replay, replayed, stepped, complete?}
+use Rattle.grammar.proofs.Replay.{replay-stops}
+use Rattle.grammar.specs.Certificates.{symbolSize, wordSize, othersSize, Figures, AreFigures}
 use Rattle.grammar.proofs.FigureTest.{figures}
-use Rattle.grammar.proofs.ASampleOfWords.{D, D-words, D-reads}
-use Rattle.grammar.proofs.ASampleOfDerivations.{empty-rule}
+use Rattle.grammar.specs.Samples.{D, D-words, empty-rule, D-table, loop}
+use Rattle.grammar.proofs.ASampleOfWords.{D-reads}
 
 -- "for each nonterminal five words (least, chosen rule, context, context rule, place counted from 0), then one total per rule"
 abbrev pub tabled : ℕ → List ℕ → Figures
@@ -28,10 +27,6 @@ tabled N ws = record {
   place = λ A. getD ws (5 * A + 4) 0;
   total = λ r. getD ws (5 * N + r) 0;
 }
-
--- "tables of D: 3 0 0 65535 65535, 2 3 1 0 0, 1 4 3 2 0, then 3 7 4 3 4 5"
-abbrev pub D-table : List ℕ
-D-table = 3 ∷ 0 ∷ 0 ∷ 65535 ∷ 65535 ∷ 2 ∷ 3 ∷ 1 ∷ 0 ∷ 0 ∷ 1 ∷ 4 ∷ 3 ∷ 2 ∷ 0 ∷ 3 ∷ 7 ∷ 4 ∷ 3 ∷ 4 ∷ 5 ∷ []
 
 pub D-figures : AreFigures D (tabled 3 D-table)
 unfolding wordSize symbolSize othersSize
@@ -48,9 +43,6 @@ empty-figures = figures empty-rule (tabled 1 (1 ∷ 0 ∷ 0 ∷ 65535 ∷ 65535 
 
 -- "words 1 1 0 0 1 0 0 1 1: table 2 1 0 65535 65535 3 2"
 -- "Choosing the lowest rule by tokens alone: S gives S, S gives a, then opens S for ever."
-abbrev pub loop : Grammar
-loop = record { N = 1; T = 1; start = 0; rules = (0 ⟶ 0 ∷ []) ∷ (0 ⟶ 1 ∷ []) ∷ [] }
-
 loop-reads : layout (1 ∷ 1 ∷ 0 ∷ 0 ∷ 1 ∷ 0 ∷ 0 ∷ 1 ∷ 1 ∷ []) ≡ reads loop
 unfolding layout lefts
 loop-reads = refl

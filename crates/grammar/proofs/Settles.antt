@@ -11,7 +11,6 @@
 use Prim.Native.Nat.{ℕ, _<_}
 use native.Mathlib.Decide.{ℕ-discrete}
 use mathlib.Core.Path.{_≡_}
-use mathlib.Core.Bool.{Bool, true, false}
 use mathlib.Core.Logic.{_⊎_, inl, inr}
 use mathlib.Core.List.{List}
 use lib.Dec.{eqb}
@@ -19,13 +18,9 @@ use lib.ListN.{length}
 use borrow.Author.Tests.{eq-eqb, ne-eqb}
 use Rattle.grammar.specs.Tree.{_∈_}
 use Rattle.grammar.specs.Measure.{Cost}
+use Rattle.grammar.specs.Certificates.{either}
 use Rattle.grammar.proofs.BySize.{by-size}
 use Rattle.grammar.proofs.Search.{member?, Without, without, Smallest, NoOffer, Best, smallest}
-
--- the first where the test holds, else the second
-abbrev pub either : {X : Type 0} → Bool → X → X → X
-either true a b = a
-either false a b = b
 
 -- figures with one more settled
 pub put : {X : Type 0} → ℕ → X → (ℕ → X) → ℕ → X

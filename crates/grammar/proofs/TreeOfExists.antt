@@ -23,14 +23,15 @@ use Rattle.grammar.specs.Refusals.{AllTrees, AllReached}
 use Rattle.grammar.proofs.LayoutExact.{rule-at}
 use Rattle.grammar.proofs.BySize.{by-size}
 use Rattle.grammar.proofs.CostOrder.{rank-of-context}
-use Rattle.grammar.proofs.Places.{Holds, holds?}
+use Rattle.grammar.specs.Certificates.{Holds, wordSize, Leasts, othersSize, Contexts}
+use Rattle.grammar.proofs.Places.{holds?}
 use Rattle.grammar.proofs.RuleNumbers.{OfRule, of-rule?}
 use Rattle.grammar.proofs.OpenEach.{Carries, forest-of, CarriesGap, gap-of}
 use Rattle.grammar.proofs.Unique.{sizes-unique, beside-unique, context-unique}
 use Rattle.grammar.proofs.Totals.{tree-of-total}
 use Rattle.grammar.proofs.Search.{both?, lowest, some-below, equal?}
-use Rattle.grammar.proofs.Certificate.{wordSize, rank-falls, Leasts, least-certificate, word-sizes, rule-size}
-use Rattle.grammar.proofs.ContextCertificate.{othersSize, others-beside, Contexts, context-certificate, candidate}
+use Rattle.grammar.proofs.Certificate.{rank-falls, least-certificate, word-sizes, rule-size}
+use Rattle.grammar.proofs.ContextCertificate.{others-beside, context-certificate, candidate}
 use Rattle.grammar.proofs.LeastsExist.{leasts-exist}
 use Rattle.grammar.proofs.ContextsExist.{holds-below, contexts-exist}
 

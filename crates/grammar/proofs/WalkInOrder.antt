@@ -8,14 +8,14 @@ use Prim.Native.Nat.{ℕ, zero, suc, _+_, _≤_, _<_}
 use native.Mathlib.Omega.{arith}
 use native.Mathlib.Numerals.{add-one}
 use native.Mathlib.Decide.{decLt}
-use lib.ListN.{length, getD, getElem?, take, drop, length-drop}
+use lib.ListN.{length, getElem?, drop, length-drop}
 use denote.Ref.{RefT, now}
 use Rattle.grammar.specs.Words.{Grammar, Rule, _⟶_, R, placeOf, RuleAt, reads, layout}
-use Rattle.grammar.specs.Walk.{WalkPlace, place, walkStart, countAt, stepAt, pastRule, pastStep, walkAt, takenFrom}
+use Rattle.grammar.specs.Walk.{WalkPlace, place, walkStart, countAt, stepAt, pastRule, pastStep, walkAt}
 use Rattle.grammar.specs.declared.walk.RuleSpan.{RuleSpan}
 use Rattle.grammar.specs.declared.walk.Step.{Step}
-use Rattle.grammar.specs.declared.walk.RuleWalk.{RuleWalk}
 use Rattle.grammar.specs.declared.walk.Step.the-variants as step
+use Rattle.grammar.specs.WalkOrder.{SpanOf, HandsOut, ended, handed, NextHandsOut}
 use Rattle.grammar.proofs.LayoutExact.{in-bounds, rule-below, rule-at}
 use Rattle.grammar.proofs.RulePlaces as places
 use Rattle.grammar.proofs.WalkSteps.{step-past-256, step-cut, step-rule}
@@ -27,27 +27,6 @@ walkBefore g k = place (placeOf g k) k
 -- the span of rule k, A ⟶ w
 abbrev pub spanOf : Grammar → ℕ → ℕ → List ℕ → RuleSpan
 spanOf g k A w = record { number = k; left = A; count = length w; first = placeOf g k + 2; end = placeOf g (k + 1) }
-
--- the span says of the rule of number k, A ⟶ w, what stands in the words: its symbols are the words from `first` up to `end`
-pub record SpanOf (ws : List ℕ) (k A : ℕ) (w : List ℕ) (s : RuleSpan) : Type 0 where
-  pub number : s .number ≡ k
-  pub left : s .left ≡ A
-  pub count : s .count ≡ length w
-  pub end : s .end ≡ s .first + s .count
-  pub symbols : take (s .count) (drop (s .first) ws) ≡ w
-  pub each : (i : ℕ) → i < length w → getD ws (s .first + i) 0 ≡ getD w i 0
-
--- from the place v on these rules are handed out one after the other, numbered from k, and then no more
-pub data HandsOut (ws : List ℕ) : ℕ → WalkPlace → List Rule → Type 0 where
-  ended : {k : ℕ} {v : WalkPlace} → stepAt ws v ≡ step.End → HandsOut ws k v []
-  handed : {k A : ℕ} {w : List ℕ} {rs : List Rule} {v : WalkPlace} {s : RuleSpan} → stepAt ws v ≡ step.Rule s →
-      SpanOf ws k A w s → HandsOut ws (k + 1) (pastRule s) rs → HandsOut ws k v ((A ⟶ w) ∷ rs)
-
--- `next` on the walk, and then on each walk that it hands on, hands out these rules, numbered from k, and then ends
-pub data NextHandsOut : ℕ → RuleWalk → List Rule → Type 0 where
-  ended : {k : ℕ} {v : RuleWalk} → takenFrom v .step ≡ step.End → NextHandsOut k v []
-  handed : {k A : ℕ} {w : List ℕ} {rs : List Rule} {v : RuleWalk} {s : RuleSpan} → takenFrom v .step ≡ step.Rule s →
-      SpanOf (now (v .words)) k A w s → NextHandsOut (k + 1) (takenFrom v .walk) rs → NextHandsOut k v ((A ⟶ w) ∷ rs)
 
 next-hands-out : (words : RefT (List ℕ)) {k : ℕ} {v : WalkPlace} {rs : List Rule} → HandsOut (now words) k v rs →
     NextHandsOut k (walkAt words v) rs

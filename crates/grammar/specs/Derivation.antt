@@ -74,6 +74,17 @@ pub record Through (g : Grammar) (k : ℕ) (σ t : List ℕ) : Type 0 where
   pub applies : Step g (γ ++ A ∷ β) (γ ++ (α ++ β))
   pub finishes : Steps g (γ ++ (α ++ β)) t
 
+-- σ ⇒* γAβ ⇒* γαβ ⇒* t, where A ⟶ α is the rule of number k: the form that the thesis prints, with ⇒* in the middle
+pub record PrintedThrough (g : Grammar) (k : ℕ) (σ t : List ℕ) : Type 0 where
+  pub A : ℕ
+  pub α : List ℕ
+  pub γ : List ℕ
+  pub β : List ℕ
+  pub rule : RuleAt g k A α
+  pub reaches : Steps g σ (γ ++ A ∷ β)
+  pub applies : Steps g (γ ++ A ∷ β) (γ ++ (α ++ β))
+  pub finishes : Steps g (γ ++ (α ++ β)) t
+
 -- Source document 004, Definition 2.10: "T ∈ L(G) satisfies production coverage if for every production rule A → α ∈ P_G there is
 -- a sentence t ∈ T such that S ⇒* γAβ ⇒* γαβ ⇒* t." T ∈ L(G) is read T ⊂ L(G), as in Definition 2.9. The productions are the
 -- rules by number, so that equal rules count as two.

@@ -1,12 +1,13 @@
 -- What the judge of words answers: what Words.antt says of them, with N, T, the start and R in place of the grammar; and where a
 -- grammar's rules stand.
 -- Assumes nothing.
+use mathlib.Core.Path.{_≡_}
 use mathlib.Core.List.{List}
 use Prim.Native.Nat.{ℕ}
 use lib.ListN.{replicate}
 use Rattle.answers.specs.Buffers.{over}
 use Rattle.answers.specs.Lists.{tabulate}
-use Rattle.grammar.specs.Words.{Grammar, R, placeOf, Judged, reads, faults}
+use Rattle.grammar.specs.Words.{Grammar, R, InBounds, words, placeOf, Judged, reads, faults}
 use Rattle.grammar.specs.declared.layout.LayoutAnswer.{LayoutAnswer}
 use Rattle.grammar.specs.declared.layout.LayoutAnswer.the-variants as answer
 
@@ -22,3 +23,13 @@ noStarts = replicate 256 0
 abbrev pub startsOf : Judged Grammar → List ℕ
 startsOf (reads g) = over (tabulate (placeOf g) (R g)) noStarts
 startsOf (faults p) = noStarts
+
+-- the words are those of a grammar within bounds that has these numbers
+pub record WordsOf (ws : List ℕ) (N T S n : ℕ) : Type 0 where
+  pub grammar : Grammar
+  pub ok : InBounds grammar
+  pub are : ws ≡ words grammar
+  pub nonterminals : grammar .N ≡ N
+  pub terminals : grammar .T ≡ T
+  pub start : grammar .start ≡ S
+  pub rules : R grammar ≡ n

@@ -15,17 +15,15 @@ use Rattle.grammar.specs.Derivation.{none}
 use Rattle.grammar.specs.Refusals.{NoTree, Unreached, AllTrees, AllReached, AllFit, Accepted}
 use Rattle.grammar.proofs.Dead.{closed-reached, open-reached}
 use Rattle.grammar.proofs.LayoutExact.{in-bounds}
-use Rattle.grammar.proofs.Certificate.{symbolSize, wordSize}
-use Rattle.grammar.proofs.ContextCertificate.{othersSize}
-use Rattle.grammar.proofs.FigureCertificate.{AreFigures}
+use Rattle.grammar.specs.Certificates.{symbolSize, wordSize, othersSize, AreFigures}
 use Rattle.grammar.proofs.FigureTest.{each-at, figures}
-use Rattle.grammar.proofs.ASampleOfWords.{D, D-words, D-reads, no-words, ends-early, no-rules}
-use Rattle.grammar.proofs.SampleFigures.{D-table}
+use Rattle.grammar.specs.Samples.{D, D-words, D-table}
+use Rattle.grammar.proofs.ASampleOfWords.{D-reads, no-words, ends-early, no-rules}
 use Rattle.tables.specs.Table.{IsTable, totalEntry}
 use Rattle.tables.specs.Promise.{Tables, refused, row-4, row-5, row-6, row-3, done, Tested, its, not-its}
 use Rattle.tables.specs.declared.TableAnswer.the-variants.{Done}
 use Rattle.tables.specs.declared.TableTest.the-variants.{Its, NotIts}
-use Rattle.tables.proofs.TablePlaces.{figuresOf}
+use Rattle.tables.specs.TableCertificates.{figuresOf}
 
 -- "tables of D: 3 0 0 65535 65535, 2 3 1 0 0, 1 4 3 2 0, then 3 7 4 3 4 5"
 D-figures : AreFigures D (figuresOf D D-table)

@@ -8,7 +8,7 @@ use mathlib.Core.List.{List}
 use lib.Dec.{eqb}
 use lib.ListN.{length, getD}
 use Rattle.grammar.specs.Words.{Grammar}
-use Rattle.grammar.proofs.ContextCertificate.{Holds}
+use Rattle.grammar.specs.Certificates.{Holds}
 use Rattle.grammar.proofs.ContextsExist.{holds-below}
 use Rattle.tables.specs.Table.{entry, totalEntry}
 use Rattle.grammar.proofs.RulesInView.{View}

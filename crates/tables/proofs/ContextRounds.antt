@@ -15,10 +15,8 @@ use lib.Seq.{getD-set-same, getD-set-other}
 use Rattle.grammar.specs.Words.{Grammar, RuleAt}
 use Rattle.grammar.specs.Measure.{plain}
 use Rattle.grammar.specs.Rules.{rightAt}
-use Rattle.grammar.proofs.Cap.{plainCap}
-use Rattle.grammar.proofs.Certificate.{wordSize}
-use Rattle.grammar.proofs.ContextCertificate.{Holds, othersSize}
-use Rattle.grammar.proofs.CappedContexts.{OfOpen}
+use Rattle.grammar.specs.Caps.{plainCap, OfOpen}
+use Rattle.grammar.specs.Certificates.{wordSize, Holds, othersSize}
 use Rattle.grammar.proofs.AtRest.{place-figure}
 use Rattle.tables.specs.Figures.{figure, Has, capped, Lowered, fell, stayed, LeastsDone, ContextsSound, ContextQuiet}
 use Rattle.tables.specs.ContextSteps.{PlaceStep, skipped, tried, PlacesStep, no-symbol, symbol}

@@ -11,8 +11,8 @@ use Rattle.grammar.specs.Words.{Grammar, layout, reads}
 use Rattle.grammar.specs.Refusals.{Lowest, NoTree, Unreached, AllTrees, AllReached}
 use Rattle.grammar.proofs.Dead.{dead, open-reached}
 use Rattle.grammar.proofs.Decided.{trees?, all-reached?}
-use Rattle.tables.specs.Dead.{Dead}
-use Rattle.tables.specs.Promise.{Tables, refused}
+use Rattle.tables.specs.Dead.{Dead, SaysDead}
+use Rattle.tables.specs.Promise.{Tables}
 use Rattle.tables.specs.declared.TableAnswer.{TableAnswer}
 use Rattle.grammar.proofs.LayoutExact.{reads-unique}
 use Rattle.tables.proofs.TablesExact.{tables-refuses}
@@ -36,10 +36,6 @@ dead-meets {g} d = five (trees? g)
         ((A : ℕ) × Lowest (NoTree g) A) ⊎ (AllTrees g × ((A : ℕ) × Lowest (Unreached g) A))
     five (inl t) = inr (t, six t (all-reached? g t))
     five (inr z) = inl z
-
--- the answer is 5, or 6
-abbrev pub SaysDead : TableAnswer → Type 0
-SaysDead a = (A : ℕ) × ((a ≡ refused (no-tree A)) ⊎ (a ≡ refused (unreached A)))
 
 module _ (words : List ℕ) {g : Grammar} (e : layout words ≡ reads g) {before after : List ℕ} {a : TableAnswer} where
   -- DEAD

@@ -3,8 +3,7 @@ use Prim.Native.Nat.{ℕ}
 use mathlib.Core.List.{List}
 use Rattle.grammar.specs.Words.{Grammar}
 use Rattle.grammar.specs.Measure.{plain}
-use Rattle.grammar.proofs.Cap.{plainCap}
-use Rattle.grammar.proofs.CappedLeasts.{CappedCertificate}
+use Rattle.grammar.specs.Caps.{plainCap, CappedCertificate}
 use Rattle.grammar.proofs.RuleNumbers.{rule-number}
 use Rattle.tables.specs.Figures.{figure, LeastsDone}
 

@@ -11,12 +11,11 @@ use lib.ListN.{length, getD}
 use Rattle.grammar.specs.Words.{Grammar, RuleAt}
 use Rattle.grammar.specs.Measure.{plain}
 use Rattle.grammar.specs.Rules.{rightAt}
-use Rattle.grammar.proofs.Cap.{plainCap}
-use Rattle.grammar.proofs.CappedLeasts.{OfTree}
-use Rattle.grammar.proofs.Certificate.{wordSize}
+use Rattle.grammar.specs.Caps.{plainCap, OfTree}
+use Rattle.grammar.specs.Certificates.{wordSize}
 use Rattle.grammar.proofs.AtRest.{rule-figure}
 use Rattle.grammar.proofs.LayoutExact.{in-bounds, rule-short}
-use Rattle.tables.specs.Figures.{Turn, Round, LeastsSound, figure, capped, Lowered, fell, stayed, Fallen, HaveIn, turn}
+use Rattle.tables.specs.Figures.{Turn, Round, LeastsSound, figure, capped, Lowered, fell, stayed, Fallen, HaveIn}
 use Rattle.tables.specs.LeastSteps.{SizeOf, LeastStep, too-many, not-yet, tried, QuietIfSound, Rounded}
 use Rattle.tables.proofs.FiguresFall.{lowered-fallen}
 use Rattle.tables.proofs.FiguresKept.{lowered-once, lowered-length, lowered-known}

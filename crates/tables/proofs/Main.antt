@@ -3,21 +3,18 @@
 use Prim.Native.Nat.{ℕ, _+_, _≤_, _<_}
 use mathlib.Core.Path.{_≡_}
 use mathlib.Core.Bool.{So}
-use mathlib.Core.Logic.{_↔_}
+use mathlib.Core.Logic.{_⊎_, _↔_}
 use mathlib.Core.List.{List, [], _∷_}
-use lib.ListN.{getD}
+use lib.ListN.{getD, take}
 use Rattle.answers.specs.Refusals.{Refusal, broken-layout, no-tree, unreached, oversize}
 use Rattle.grammar.specs.Words.{Grammar, R, layout, reads, faults, Are, InBounds, FaultAt}
 use Rattle.grammar.specs.Judge.{startsOf}
 use Rattle.grammar.specs.Measure.{plain}
 use Rattle.grammar.specs.Refusals.{Lowest, NoTree, AllTrees, Unreached, AllReached, Oversize, AllFit, Accepted}
-use Rattle.grammar.proofs.Certificate.{Leasts}
-use Rattle.grammar.proofs.ContextCertificate.{Contexts}
-use Rattle.grammar.proofs.ASampleOfWords.{D}
-use Rattle.grammar.proofs.ASampleOfDerivations.{empty-rule}
-use Rattle.grammar.proofs.SampleFigures.{D-table, loop}
-use Rattle.tables.specs.Table.{IsTable, HasTable, totalEntry, entry}
-use Rattle.tables.specs.Dead.{Dead}
+use Rattle.grammar.specs.Certificates.{Leasts, Contexts}
+use Rattle.grammar.specs.Samples.{D, empty-rule, D-table, loop}
+use Rattle.tables.specs.Table.{IsTable, HasTable, tableLength, totalEntry, entry}
+use Rattle.tables.specs.Dead.{Dead, SaysDead}
 use Rattle.tables.specs.Promise.{Tables, Tested, TestPromise, refused, refusedTest}
 use Rattle.tables.specs.declared.TableAnswer.{TableAnswer}
 use Rattle.tables.specs.declared.TableAnswer.the-variants.{Done}
@@ -26,22 +23,19 @@ use Rattle.tables.specs.declared.TableTest.the-variants.{Its, NotIts}
 use Rattle.tables.specs.declared.Testing.{Testing}
 use Rattle.tables.proofs.ASampleOfTables as ASampleOfTables
 use Rattle.tables.proofs.TableSamples as TableSamples
+use Rattle.tables.proofs.TablePlaces as TablePlaces
 use Rattle.tables.proofs.TableIsOne as TableIsOne
 use Rattle.tables.proofs.TableExists as TableExists
 use Rattle.tables.proofs.TableFits as TableFits
 use Rattle.tables.proofs.TableTests as TableTests
-use Rattle.tables.proofs.TableTests.{Passes}
+use Rattle.tables.specs.TableCertificates.{Passes, passes?, WorkedOut}
 use Rattle.tables.proofs.TableComputed as TableComputed
-use Rattle.tables.proofs.TableComputed.{passes?}
 use Rattle.tables.proofs.TableWorkedOut as TableWorkedOut
-use Rattle.tables.proofs.TableWorkedOut.{WorkedOut}
 use Rattle.tables.proofs.TablesSettles as TablesSettles
 use Rattle.tables.proofs.TablesExact as TablesExact
-use Rattle.tables.proofs.TablesExact.{Given, GivenDone, Written}
+use Rattle.tables.specs.Given.{Given, GivenDone, Written, Own}
 use Rattle.tables.proofs.DeadGrammars as DeadGrammars
-use Rattle.tables.proofs.DeadGrammars.{SaysDead}
 use Rattle.tables.proofs.TestSettles as TestSettles
-use Rattle.tables.proofs.TestSettles.{Own}
 
 -- THE TABLE. A grammar has one at most, and one where all nonterminals have trees and are reached.
 pub table-unique : {g : Grammar} {ws vs : List ℕ} → IsTable g ws → IsTable g vs → ws ≡ vs
@@ -57,6 +51,21 @@ table-tests = TableTests.table-tests
 
 pub passes?-sound : (g : Grammar) (ws : List ℕ) → So (passes? g ws) → Passes g ws
 passes?-sound = TableComputed.passes?-sound
+
+-- So words that pass when computed are the table.
+pub computed-table : {g : Grammar} → InBounds g → (ws : List ℕ) → So (passes? g ws) → IsTable g ws
+computed-table = TableComputed.computed-table
+
+-- Whether a lent table is the grammar's is decided.
+pub tabled? : (table : List ℕ) (g : Grammar) → InBounds g → Accepted g → Dec (HasTable g table)
+tabled? = TestSettles.tabled?
+
+-- What is read of a lent table at the places of an entry or a total is what its first 5N + R words have there.
+pub entry-front : (g : Grammar) (ws : List ℕ) (A j : ℕ) → A < g .N → j < 5 → entry (take (tableLength g) ws) A j ≡ entry ws A j
+entry-front = TablePlaces.entry-front
+
+pub total-front : (g : Grammar) (ws : List ℕ) (r : ℕ) → r < R g → totalEntry g (take (tableLength g) ws) r ≡ totalEntry g ws r
+total-front = TablePlaces.total-front
 
 -- Words worked out from leasts and contexts, each choice the first that comes to its figure, are the table.
 pub worked-out : (g : Grammar) (v u : ℕ → ℕ) → InBounds g → Leasts plain g v → Contexts plain g v u →
@@ -110,6 +119,17 @@ pub tables-dead : (words : List ℕ) {g : Grammar} → layout words ≡ reads g 
     Tables words before a after → SaysDead a ↔ Dead g
 tables-dead = DeadGrammars.tables-dead
 
+-- What meets 5 or 6 is dead, and a dead grammar meets 5, or else 6.
+pub no-tree-dead : {g : Grammar} {A : ℕ} → NoTree g A → Dead g
+no-tree-dead = DeadGrammars.no-tree-dead
+
+pub unreached-dead : {g : Grammar} {A : ℕ} → Unreached g A → Dead g
+unreached-dead = DeadGrammars.unreached-dead
+
+pub dead-meets : {g : Grammar} → Dead g →
+    ((A : ℕ) × Lowest (NoTree g) A) ⊎ (AllTrees g × ((A : ℕ) × Lowest (Unreached g) A))
+dead-meets = DeadGrammars.dead-meets
+
 -- TEST. Its promise allows exactly one outcome, answer and places of the rules, for each words and each table.
 pub test-settles : (words table : List ℕ) {r r′ : Testing} → TestPromise words table r → TestPromise words table r′ → r ≡ r′
 test-settles = TestSettles.test-settles
@@ -161,3 +181,13 @@ empty-has-table = TableSamples.empty-has-table
 
 pub loop-has-table : IsTable loop (2 ∷ 1 ∷ 0 ∷ 65535 ∷ 65535 ∷ 3 ∷ 2 ∷ [])
 loop-has-table = TableSamples.loop-has-table
+
+-- "words 1 0 0: 5 at 0", "words 2 0 0 0 0: 5 at 1", "words 2 0 0 0 0 1 0: 6 at 1"
+pub no-tree-at-0 : Tables (1 ∷ 0 ∷ 0 ∷ []) [] (refused (no-tree 0)) []
+no-tree-at-0 = ASampleOfTables.no-tree-at-0
+
+pub no-tree-at-1 : Tables (2 ∷ 0 ∷ 0 ∷ 0 ∷ 0 ∷ []) [] (refused (no-tree 1)) []
+no-tree-at-1 = ASampleOfTables.no-tree-at-1
+
+pub unreached-at-1 : Tables (2 ∷ 0 ∷ 0 ∷ 0 ∷ 0 ∷ 1 ∷ 0 ∷ []) [] (refused (unreached 1)) []
+unreached-at-1 = ASampleOfTables.unreached-at-1

@@ -1,15 +1,14 @@
 -- The context rules and places, symbol by symbol: place i of rule r, looked at after those before it, is noted at the symbol
 -- there where that is a nonterminal and the rule's total is its least and its context. Past the last symbol of a rule no place
 -- fits, and the next rule's places follow. Assumes nothing.
-use mathlib.Core.Path.{_≡_, refl, sym, ap, _∙_}
+use mathlib.Core.Path.{_≡_, refl}
 use mathlib.Core.List.{List, [], _∷_}
-use mathlib.Core.Option.{some}
 use Prim.Native.Nat.{ℕ, zero, suc, _+_, _-_, _*_, _≤_, _<_}
 use native.Mathlib.Omega.{arith}
-use lib.ListN.{length, getD, getElem?}
+use lib.ListN.{length, getD}
 use Rattle.grammar.specs.Words.{Grammar, RuleAt, InBounds}
 use Rattle.grammar.proofs.LayoutExact.{rule-short}
-use Rattle.grammar.proofs.Places.{Holds}
+use Rattle.grammar.specs.Certificates.{Holds}
 use Rattle.grammar.proofs.ContextsExist.{holds-below}
 use Rattle.grammar.proofs.RuleNumbers.{rule-right}
 use Rattle.tables.specs.Figures.{figure, PlaceFits, PlacesOf}

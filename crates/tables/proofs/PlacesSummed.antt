@@ -10,8 +10,8 @@ use lib.ListN.{length, getD, drop, drop-of-length-le}
 use lib.Seq.{drop-cons}
 use Rattle.grammar.specs.Words.{Grammar}
 use Rattle.grammar.specs.Measure.{plain}
-use Rattle.grammar.proofs.Certificate.{symbolSize, wordSize, symbol-nonterminal, symbol-terminal}
-use Rattle.grammar.proofs.ContextCertificate.{Holds}
+use Rattle.grammar.specs.Certificates.{symbolSize, wordSize, Holds}
+use Rattle.grammar.proofs.Certificate.{symbol-nonterminal, symbol-terminal}
 use Rattle.grammar.proofs.ContextsExist.{holds-below}
 use Rattle.tables.specs.Tests.{PlacePasses, leastIn, sizeIn, SizePasses, one-fails, all-pass}
 use Rattle.tables.proofs.SymbolsHeld.{holds-there, held-there}

@@ -15,12 +15,11 @@ use Rattle.grammar.specs.Refusals.{Lowest, NoTree, AllTrees, Unreached, AllReac
 use Rattle.grammar.proofs.LayoutExact.{rule-at}
 use Rattle.grammar.proofs.RuleNumbers.{rule-number}
 use Rattle.grammar.proofs.Dead.{open-reached}
-use Rattle.grammar.proofs.Cap.{plainCap}
+use Rattle.grammar.specs.Caps.{plainCap, OfOpen, CappedFigures, stoppedTotal, LeastsAtRest, ContextsAtRest}
 use Rattle.grammar.proofs.CappedLeasts.{certificate-trees}
-use Rattle.grammar.proofs.CappedContexts.{OfOpen, certificate-reached, start-figure}
-use Rattle.grammar.proofs.CappedTotals.{CappedFigures, stoppedTotal, oversize-exact, fits-exact}
-use Rattle.grammar.proofs.AtRest.{LeastsAtRest, no-figure-no-tree}
-use Rattle.grammar.proofs.AtRest.{ContextsAtRest, rest-context-certificate, no-figure-unreached}
+use Rattle.grammar.proofs.CappedContexts.{certificate-reached, start-figure}
+use Rattle.grammar.proofs.CappedTotals.{oversize-exact, fits-exact}
+use Rattle.grammar.proofs.AtRest.{no-figure-no-tree, rest-context-certificate, no-figure-unreached}
 use Rattle.tables.specs.declared.figures.Found.the-variants.{At, Nothing}
 use Rattle.tables.specs.Figures.{figure, Has, capped, FirstAbove, found-at, found-none, LeastsSound, LeastsRest}
 use Rattle.tables.specs.Figures.{LeastsDone, SizesOf}

@@ -11,7 +11,8 @@ use lib.Seq.{drop-cons}
 use Rattle.grammar.specs.Words.{Grammar}
 use Rattle.grammar.specs.Tree.{_∈_}
 use Rattle.grammar.specs.Measure.{plain}
-use Rattle.grammar.proofs.Certificate.{symbolSize, wordSize, symbol-nonterminal, symbol-terminal}
+use Rattle.grammar.specs.Certificates.{symbolSize, wordSize}
+use Rattle.grammar.proofs.Certificate.{symbol-nonterminal, symbol-terminal}
 use Rattle.tables.specs.Figures.{figure, Has, HaveIn}
 use Rattle.tables.specs.LeastSteps.{SizeOf}
 use Rattle.tables.proofs.FiguresFall.{figure-is}

@@ -5,8 +5,8 @@ use Prim.Native.Nat.{ℕ, zero, suc, _+_, _<_}
 use native.Mathlib.Omega.{arith}
 use Rattle.grammar.specs.Words.{Grammar}
 use Rattle.grammar.specs.Measure.{plain}
-use Rattle.grammar.proofs.Certificate.{wordSize, symbol-nonterminal}
-use Rattle.grammar.proofs.ContextCertificate.{Holds, othersSize}
+use Rattle.grammar.specs.Certificates.{wordSize, Holds, othersSize}
+use Rattle.grammar.proofs.Certificate.{symbol-nonterminal}
 
 pub size-apart : (g : Grammar) (v : ℕ → ℕ) (w : List ℕ) (i A : ℕ) → Holds w i A → A < g .N →
     wordSize plain g v w ≡ v A + othersSize plain g v w i

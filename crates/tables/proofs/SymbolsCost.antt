@@ -9,7 +9,8 @@ use lib.ListN.{length}
 use Rattle.grammar.specs.Words.{Grammar}
 use Rattle.grammar.specs.Tree.{Tree, node}
 use Rattle.grammar.specs.Measure.{plain, treeCost}
-use Rattle.grammar.proofs.Certificate.{wordSize, symbolSize, symbol-nonterminal, symbol-terminal}
+use Rattle.grammar.specs.Certificates.{wordSize, symbolSize}
+use Rattle.grammar.proofs.Certificate.{symbol-nonterminal, symbol-terminal}
 use Rattle.tables.specs.Figures.{figure, Has, capped, HaveIn, LeastsSound}
 
 tree-costs : {g : Grammar} {A : ℕ} (t : Tree g A) → 1 ≤ treeCost plain t

@@ -4,7 +4,7 @@ use mathlib.Core.List.{List, [], _∷_}
 use Prim.Native.Nat.{ℕ, zero, suc, _<_}
 use native.Mathlib.Omega.{arith}
 use lib.ListN.{length, getD}
-use Rattle.grammar.proofs.ContextCertificate.{Holds}
+use Rattle.grammar.specs.Certificates.{Holds}
 use Rattle.grammar.proofs.ContextsExist.{holds-below}
 
 pub holds-there : (w : List ℕ) (i : ℕ) → i < length w → Holds w i (getD w i 0)

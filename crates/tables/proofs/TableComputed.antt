@@ -1,22 +1,16 @@
 -- The tests of a table, computed: words that pass are the grammar's table. So a sample table is checked by computing it.
 -- Assumes nothing.
 use Prim.Native.Nat.{ℕ}
-use mathlib.Core.Bool.{Bool, _&&_, So, and-eq-true-iff}
+use mathlib.Core.Bool.{So, and-eq-true-iff}
 use mathlib.Core.List.{List}
 use lib.Dec.{eqb}
 use lib.ListN.{length}
 use borrow.Author.Tests.{eqb-true}
 use Rattle.grammar.specs.Words.{Grammar, InBounds}
-use Rattle.grammar.proofs.FigureTest.{figures?, figures-certified}
+use Rattle.grammar.proofs.FigureTest.{figures-certified}
 use Rattle.tables.specs.Table.{IsTable, tableLength, entry}
-use Rattle.tables.proofs.TablePlaces.{figuresOf}
-use Rattle.tables.proofs.TableTests.{Passes, table-tests}
-
-abbrev pub start-words? : Grammar → List ℕ → Bool
-start-words? g ws = eqb (entry ws (g .start) 3) 65535 && eqb (entry ws (g .start) 4) 65535
-
-abbrev pub passes? : Grammar → List ℕ → Bool
-passes? g ws = eqb (length ws) (tableLength g) && (start-words? g ws && figures? g (figuresOf g ws))
+use Rattle.tables.specs.TableCertificates.{figuresOf, Passes, start-words?, passes?}
+use Rattle.tables.proofs.TableTests.{table-tests}
 
 pub passes?-sound : (g : Grammar) (ws : List ℕ) → So (passes? g ws) → Passes g ws
 passes?-sound g ws t =

@@ -11,8 +11,7 @@ use Rattle.grammar.specs.Words.{Grammar, R, InBounds}
 use Rattle.grammar.specs.Measure.{plain}
 use Rattle.grammar.specs.Least.{Least, Chosen, Context, ContextChoice, Total}
 use Rattle.grammar.specs.Refusals.{AllTrees, AllReached}
-use Rattle.grammar.proofs.Certificate.{either}
-use Rattle.grammar.proofs.FigureCertificate.{Figures, AreFigures}
+use Rattle.grammar.specs.Certificates.{either, Figures, AreFigures}
 use Rattle.grammar.proofs.TreeOfExists.{least-exists, chosen-exists, context-exists, choice-exists, total-exists}
 use Rattle.tables.specs.Table.{IsTable, tableLength, entry, totalEntry}
 use Rattle.answers.specs.Lists.{tabulate}

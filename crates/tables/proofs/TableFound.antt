@@ -2,28 +2,29 @@
 -- true, and the first rule noted for each nonterminal is its chosen rule, the first place its context rule and place. The two
 -- stand as one number, 32 times the rule and the place, so that the first number is the lowest rule and then the leftmost place;
 -- for the start no place can be noted, since its context is 0 and every place adds a rule's use. Assumes nothing.
-use Prim.Native.Nat.{ℕ, _+_, _*_, _/_, _%_, _≤_, _<_}
+use Prim.Native.Nat.{ℕ, _+_, _*_, _≤_, _<_}
 use native.Mathlib.Omega.{arith}
 use native.Mathlib.Decide.{decLt}
 use mathlib.Core.Path.{_≡_, refl, sym, ap, _∙_}
 use mathlib.Core.Logic.{_⊎_, inl, inr}
 use mathlib.Core.List.{List}
-use lib.ListN.{length, getD}
+use lib.ListN.{getD}
 use Rattle.grammar.specs.Words.{Grammar, RuleAt, R, InBounds}
 use Rattle.grammar.specs.Measure.{plain}
 use Rattle.grammar.specs.Refusals.{Lowest}
 use Rattle.grammar.proofs.LayoutExact.{rule-short}
 use Rattle.grammar.proofs.RuleNumbers.{rule-number}
-use Rattle.grammar.proofs.Certificate.{wordSize, Leasts}
-use Rattle.grammar.proofs.ContextCertificate.{Holds, othersSize, Contexts, context-certificate}
+use Rattle.grammar.specs.Certificates.{wordSize, Leasts, Holds, Contexts}
+use Rattle.grammar.proofs.ContextCertificate.{context-certificate}
 use Rattle.grammar.proofs.ContextsExist.{holds-below}
 use Rattle.tables.specs.Table.{IsTable}
 use Rattle.tables.specs.Figures.{figure, SizesOf, First, none-has, first, RuleFits, ChosenOf, PlaceFits, PlacesOf}
 use Rattle.tables.specs.Written.{contextRule, contextPlace, fiveWord}
 use Rattle.tables.proofs.SizeApart.{size-apart}
 use Rattle.tables.proofs.TableEntries.{tableWords, table-length, at-five, at-total, or-none, or-some}
-use Rattle.tables.proofs.TableWorkedOut as out
-use Rattle.tables.proofs.TableWorkedOut.{WorkedOut, Attaining, Leading, worked-out, first-rule, first-place}
+use Rattle.tables.specs.TableCertificates as out
+use Rattle.tables.specs.TableCertificates.{Attaining, Leading}
+use Rattle.tables.proofs.TableWorkedOut.{worked-out, first-rule, first-place}
 
 -- what is first, where there is one at all
 record FirstOf (P : ℕ → Type 0) (n x : ℕ) : Type 0 where

@@ -8,7 +8,6 @@ use mathlib.Core.List.{List}
 use lib.ListN.{take}
 use lib.Seq.{getD-take}
 use Rattle.grammar.specs.Words.{Grammar, R}
-use Rattle.grammar.proofs.FigureCertificate.{Figures}
 use Rattle.tables.specs.Table.{tableLength, entry, totalEntry}
 
 pub at-each-place : (g : Grammar) (P : ℕ → Type 0) → ((A j : ℕ) → A < g .N → j < 5 → P (5 * A + j)) →
@@ -19,17 +18,6 @@ at-each-place g P five total i l = split (decLt i (5 * g .N))
     split (yes h) =
         let e : 5 * (i / 5) + i % 5 ≡ i = omega arith in rw e at (five (i / 5) (i % 5) (omega arith) (omega arith))
     split (no h) = let e : 5 * g .N + (i - 5 * g .N) ≡ i = omega arith in rw e at (total (i - 5 * g .N) (omega arith))
-
--- the figures that words give to a grammar, whether or not they are its own
-abbrev pub figuresOf : Grammar → List ℕ → Figures
-figuresOf g ws = record {
-  least = λ A. entry ws A 0;
-  chosen = λ A. entry ws A 1;
-  context = λ A. entry ws A 2;
-  rule = λ A. entry ws A 3;
-  place = λ A. entry ws A 4;
-  total = totalEntry g ws;
-}
 
 -- the first 5N + R words stand in front, and so does each of these places
 pub entry-front : (g : Grammar) (ws : List ℕ) (A j : ℕ) → A < g .N → j < 5 → entry (take (tableLength g) ws) A j ≡ entry ws A j

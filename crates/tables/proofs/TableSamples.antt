@@ -4,11 +4,9 @@ use mathlib.Core.Path.{refl}
 use mathlib.Core.List.{List, [], _∷_}
 use Rattle.grammar.specs.Words.{layout, lefts}
 use Rattle.grammar.proofs.LayoutExact.{in-bounds}
-use Rattle.grammar.proofs.Certificate.{symbolSize, wordSize}
-use Rattle.grammar.proofs.ContextCertificate.{othersSize}
-use Rattle.grammar.proofs.ASampleOfDerivations.{empty-rule}
+use Rattle.grammar.specs.Certificates.{symbolSize, wordSize, othersSize}
+use Rattle.grammar.specs.Samples.{empty-rule, loop}
 use Rattle.grammar.proofs.ASampleOfTies.{ties}
-use Rattle.grammar.proofs.SampleFigures.{loop}
 use Rattle.tables.specs.Table.{IsTable}
 use Rattle.tables.proofs.TableComputed.{computed-table}
 

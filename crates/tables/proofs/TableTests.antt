@@ -2,20 +2,12 @@
 -- and the figures that they give pass the tests of grammar's FigureCertificate, which speak of the figures and the rules alone.
 -- So a lent table is judged by one pass over the rules, and what `tables` writes need only pass it. Assumes nothing.
 use Prim.Native.Nat.{ℕ}
-use mathlib.Core.Path.{_≡_}
 use mathlib.Core.Logic.{_↔_}
 use mathlib.Core.List.{List}
-use lib.ListN.{length}
 use Rattle.grammar.specs.Words.{Grammar, InBounds}
-use Rattle.grammar.proofs.FigureCertificate.{FigureCertificate, figure-certificate}
-use Rattle.tables.specs.Table.{IsTable, tableLength, entry}
-use Rattle.tables.proofs.TablePlaces.{figuresOf}
-
-pub record Passes (g : Grammar) (ws : List ℕ) : Type 0 where
-  pub long : length ws ≡ tableLength g
-  pub figures : FigureCertificate g (figuresOf g ws)
-  pub start-rule : entry ws (g .start) 3 ≡ 65535
-  pub start-place : entry ws (g .start) 4 ≡ 65535
+use Rattle.grammar.proofs.FigureCertificate.{figure-certificate}
+use Rattle.tables.specs.Table.{IsTable}
+use Rattle.tables.specs.TableCertificates.{figuresOf, Passes}
 
 module _ (g : Grammar) (ok : InBounds g) (ws : List ℕ) where
   to : Passes g ws → IsTable g ws

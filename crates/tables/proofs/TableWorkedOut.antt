@@ -4,49 +4,25 @@
 -- A place is judged by the size of the whole rule: as w holds A at i, the sizes of w are v(A) and those beside it, so that
 -- u(A) = u(B) + 1 + (those beside) exactly where v(A) + u(A) = u(B) + 1 + (the sizes of w), and no sum has to leave a symbol out.
 -- Assumes nothing.
-use Prim.Native.Nat.{ℕ, zero, suc, _+_, _≤_, _<_}
+use Prim.Native.Nat.{ℕ, suc, _<_}
 use native.Mathlib.Omega.{arith}
 use mathlib.Core.Path.{_≡_}
-use mathlib.Core.Logic.{_⊎_}
-use mathlib.Core.List.{List, [], _∷_}
-use lib.ListN.{length}
-use Rattle.grammar.specs.Words.{Grammar, RuleAt, InBounds}
+use mathlib.Core.List.{List}
+use Rattle.grammar.specs.Words.{Grammar, InBounds}
 use Rattle.grammar.specs.Measure.{plain}
 use Rattle.grammar.specs.Refusals.{Lowest}
 use Rattle.grammar.proofs.Dead.{open-reached}
-use Rattle.grammar.proofs.Certificate.{wordSize, symbol-nonterminal, Leasts, least-certificate}
-use Rattle.grammar.proofs.ContextCertificate.{Holds, othersSize, Contexts, context-certificate}
-use Rattle.grammar.proofs.FigureCertificate.{Figures, AreFigures, FigureCertificate, figure-certificate}
-use Rattle.tables.specs.Table.{IsTable, tableLength, entry, totalEntry}
+use Rattle.grammar.specs.Certificates.{Leasts, Contexts, Figures, AreFigures, FigureCertificate}
+use Rattle.grammar.proofs.Certificate.{least-certificate}
+use Rattle.grammar.proofs.ContextCertificate.{context-certificate}
+use Rattle.grammar.proofs.FigureCertificate.{figure-certificate}
+use Rattle.tables.specs.Table.{IsTable, entry, totalEntry}
+use Rattle.tables.specs.TableCertificates.{First, Attaining, Leading, WorkedOut}
 use Rattle.tables.proofs.SizeApart.{size-apart}
 use Rattle.tables.proofs.TableExists.{figures-exist}
 
--- the first of two numbers, rule before place, with a property
-pub record First (P : ℕ → ℕ → Type 0) (k i : ℕ) : Type 0 where
-  pub such : P k i
-  pub first : (j h : ℕ) → P j h → (k < j) ⊎ ((k ≡ j) × (i ≤ h))
-
 module _ (g : Grammar) (v : ℕ → ℕ) where
-  -- rule k is one of A and comes to v(A)
-  abbrev pub Attaining : ℕ → ℕ → Type 0
-  Attaining A k = (w : List ℕ) × RuleAt g k A w × (v A ≡ 1 + wordSize plain g v w)
-
   module _ (u : ℕ → ℕ) where
-    -- rule k, of B, holds A at place i and comes to u(A) there
-    abbrev pub Leading : ℕ → ℕ → ℕ → Type 0
-    Leading A k i =
-        (B : ℕ) × (w : List ℕ) × RuleAt g k B w × Holds w i A × (v A + u A ≡ u B + (1 + wordSize plain g v w))
-
-    pub record WorkedOut (ws : List ℕ) : Type 0 where
-      pub long : length ws ≡ tableLength g
-      pub leasts : (A : ℕ) → A < g .N → entry ws A 0 ≡ v A
-      pub chosen : (A : ℕ) → A < g .N → Lowest (Attaining A) (entry ws A 1)
-      pub contexts : (A : ℕ) → A < g .N → entry ws A 2 ≡ u A
-      pub choices : (A : ℕ) → A < g .N → ¬ (A ≡ g .start) → First (Leading A) (entry ws A 3) (entry ws A 4)
-      pub start-rule : entry ws (g .start) 3 ≡ 65535
-      pub start-place : entry ws (g .start) 4 ≡ 65535
-      pub totals : (r A : ℕ) (w : List ℕ) → RuleAt g r A w → totalEntry g ws r ≡ u A + (1 + wordSize plain g v w)
-
     module _ (ok : InBounds g) (leasts : Leasts plain g v) (contexts : Contexts plain g v u) where
       -- v and u with choices and totals
       abbrev with-choices : (ℕ → ℕ) → (ℕ → ℕ) → (ℕ → ℕ) → (ℕ → ℕ) → Figures
@@ -54,7 +30,7 @@ module _ (g : Grammar) (v : ℕ → ℕ) where
           record { least = v; chosen = chosen; context = u; rule = rule; place = place; total = total }
 
       -- THE TABLE
-      pub worked-out : {ws : List ℕ} → WorkedOut ws → IsTable g ws
+      pub worked-out : {ws : List ℕ} → WorkedOut g v u ws → IsTable g ws
       worked-out {ws} z =
           let F = with-choices (λ A. entry ws A 1) (λ A. entry ws A 3) (λ A. entry ws A 4) (totalEntry g ws) in
           let below = least-certificate plain g v .1 leasts in
@@ -93,12 +69,12 @@ module _ (g : Grammar) (v : ℕ → ℕ) where
           record { leasts = leasts; chosens = f .chosens; contexts = contexts; choices = f .choices; totals = f .totals } in
           (F, figure-certificate g G ok .1 are)
 
-      pub first-rule : (A : ℕ) → A < g .N → (k : ℕ) × Lowest (Attaining A) k
+      pub first-rule : (A : ℕ) → A < g .N → (k : ℕ) × Lowest (Attaining g v A) k
       first-rule A lt =
           let (F, c) = some-choices in
           (F .chosen A, record { such = c .chosen-attains A lt; lowest = λ j (w, r, e). c .chosen-lowest j A w r e })
 
-      pub first-place : (A : ℕ) → A < g .N → ¬ (A ≡ g .start) → (k : ℕ) × (i : ℕ) × First (Leading A) k i
+      pub first-place : (A : ℕ) → A < g .N → ¬ (A ≡ g .start) → (k : ℕ) × (i : ℕ) × First (Leading g v u A) k i
       first-place A lt d =
           let (F, c) = some-choices in
           let (B, w, r, h, e) = c .choice-attains A lt d in (

@@ -1,6 +1,6 @@
 -- Each answer of `tables` is given exactly when document 01 says so. One way, only the row of an answer has it; the other way,
 -- its row allows it, and what is allowed is settled. Assumes nothing.
-use Prim.Native.Nat.{ℕ, _≤_, _<_}
+use Prim.Native.Nat.{ℕ}
 use mathlib.Core.Path.{_≡_, refl, ap, _∙_}
 use mathlib.Core.Logic.{_↔_}
 use mathlib.Core.List.{List, _++_}
@@ -9,46 +9,20 @@ use lib.Seq.{take-at, drop-at}
 use Rattle.answers.specs.Refusals.{Refusal, not-version-one, bad-length, too-many-words, too-short, broken-layout, no-tree}
 use Rattle.answers.specs.Refusals.{unreached, oversize, not-its-table, few-marks, derivation-short, no-derivation, long-list}
 use Rattle.answers.specs.Buffers.{over}
-use Rattle.grammar.specs.Words.{Grammar, layout, faults, Are, FaultAt}
-use Rattle.grammar.specs.Refusals.{Lowest, NoTree, AllTrees, Unreached, AllReached, Oversize, Accepted}
-use Rattle.grammar.proofs.LayoutExact.{in-bounds}
+use Rattle.grammar.specs.Words.{Are, FaultAt}
+use Rattle.grammar.proofs.LayoutExact.{in-bounds, reads-unique}
 use Rattle.grammar.proofs.FirstOffence.{layout-faults-exact}
-use Rattle.tables.specs.Table.{HasTable, tableLength}
+use Rattle.tables.specs.Table.{tableLength}
 use Rattle.tables.specs.Promise.{Tables, Tested, refused, row-4, row-5, row-6, row-7, row-3, done, its}
 use Rattle.tables.specs.declared.TableAnswer.{TableAnswer}
 use Rattle.tables.specs.declared.TableAnswer.the-variants.{Done}
 use Rattle.tables.specs.declared.TableTest.the-variants.{Its}
-use Rattle.grammar.proofs.LayoutExact.{reads-unique}
+use Rattle.tables.specs.Given.{Given, GivenDone, Written}
 use Rattle.tables.proofs.TableExists.{table-exists}
 use Rattle.tables.proofs.TablesSettles.{tables-settles}
 
--- what Done says of the buffer: the grammar's table in front, and what lay behind it
-pub record Written (before after : List ℕ) (g : Grammar) : Type 0 where
-  pub table : HasTable g after
-  pub behind : drop (tableLength g) after ≡ drop (tableLength g) before
-
 module _ (words before : List ℕ) where
-  -- "Given exactly when", of each refusal, as `tables` gives it: 8 to 12, 1 and 2 never
-  abbrev pub Given : Refusal → Type 0
-  Given (broken-layout p) = layout words ≡ faults p
-  Given (no-tree A) = Are words (λ g. Lowest (NoTree g) A)
-  Given (unreached A) = Are words (λ g. AllTrees g × Lowest (Unreached g) A)
-  Given (oversize r) = Are words (λ g. AllTrees g × AllReached g × Lowest (Oversize g) r)
-  Given (too-short n) = Are words (λ g. Accepted g × (n ≡ tableLength g) × (length before < n))
-  Given not-version-one = ⊥
-  Given bad-length = ⊥
-  Given too-many-words = ⊥
-  Given not-its-table = ⊥
-  Given (few-marks n) = ⊥
-  Given (derivation-short n) = ⊥
-  Given (no-derivation p) = ⊥
-  Given long-list = ⊥
-
-  -- and of Done
-  abbrev pub GivenDone : ℕ → Type 0
-  GivenDone n = Are words (λ g. Accepted g × (n ≡ tableLength g) × (n ≤ length before))
-
-  only : {after : List ℕ} (r : Refusal) → Tables words before (refused r) after → Given r × (after ≡ before)
+  only : {after : List ℕ} (r : Refusal) → Tables words before (refused r) after → Given words before r × (after ≡ before)
   only (broken-layout p) (row-4 e) = (e, refl)
   only (no-tree A) (row-5 {g = g} e low) = ((g, e, low), refl)
   only (unreached A) (row-6 {g = g} e t low) = ((g, e, (t, low)), refl)
@@ -63,7 +37,7 @@ module _ (words before : List ℕ) where
   only (no-derivation q) p = elim p [ ]
   only long-list p = elim p [ ]
 
-  allowed : (r : Refusal) → Given r → Tables words before (refused r) before
+  allowed : (r : Refusal) → Given words before r → Tables words before (refused r) before
   allowed (broken-layout p) e = row-4 e
   allowed (no-tree A) (g, e, low) = row-5 e low
   allowed (unreached A) (g, e, (t, low)) = row-6 e t low
@@ -78,7 +52,7 @@ module _ (words before : List ℕ) where
   allowed (no-derivation p) z = absurd z
   allowed long-list z = absurd z
 
-  only-done : {n : ℕ} {after : List ℕ} → Tables words before (Done n) after → GivenDone n × Are words (Written before after)
+  only-done : {n : ℕ} {after : List ℕ} → Tables words before (Done n) after → GivenDone words before n × Are words (Written before after)
   unfolding over
   only-done (done {g = g} {table = table} e t u f l is) =
       let behind = drop (length table) before in
@@ -88,7 +62,7 @@ module _ (words before : List ℕ) where
       } in
       ((g, e, (record { trees = t; reached = u; fit = f }, refl, l)), (g, e, written))
 
-  allowed-done : (n : ℕ) → GivenDone n → (after : List ℕ) × Tables words before (Done n) after
+  allowed-done : (n : ℕ) → GivenDone words before n → (after : List ℕ) × Tables words before (Done n) after
   allowed-done n (g, e, (a, same, l)) =
       let (table, is) = table-exists g (in-bounds words e) (a .trees) (a .reached) in
       (over table before, rw same (done e (a .trees) (a .reached) (a .fit) (rw same at l) is))

@@ -16,15 +16,12 @@ use Rattle.tables.specs.Promise.{Tested, TestPromise, startsWith, refuse
 use Rattle.tables.specs.declared.TableTest.{TableTest}
 use Rattle.tables.specs.declared.TableTest.the-variants.{Its, NotIts}
 use Rattle.tables.specs.declared.Testing.{Testing}
+use Rattle.tables.specs.Given.{Own}
 use Rattle.answers.proofs.Gates.{Gate, stop, go, Settles, gate-settles}
 use Rattle.grammar.proofs.FirstRows.{OfWords, fault, grammar, words-settle, FromFive, five-settles}
 use Rattle.grammar.proofs.FirstRowsMet.{words-met, five-met}
 use Rattle.tables.proofs.TableIsOne.{table-unique}
 use Rattle.tables.proofs.TableExists.{table-exists}
-
--- accepted, and the table is its own
-abbrev pub Own : List ℕ → Grammar → Type 0
-Own table g = Accepted g × HasTable g table
 
 -- whether it is its own
 pub tabled? : (table : List ℕ) (g : Grammar) → InBounds g → Accepted g → Dec (HasTable g table)

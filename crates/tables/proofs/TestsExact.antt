@@ -3,13 +3,13 @@
 -- and the size is 1, v A and the sizes of the symbols beside A; so v A + u A is at most the total exactly where u A is at most u
 -- B, 1 and the sizes beside. The start's v A + 0 is below the total of each rule that names it, so its stored 65535 does no harm.
 -- Assumes nothing.
-use Prim.Native.Nat.{ℕ, zero, suc, _+_, _*_, _≤_, _<_}
+use Prim.Native.Nat.{ℕ, zero, suc, _+_, _≤_, _<_}
 use native.Mathlib.Omega.{arith}
 use native.Mathlib.Decide.{ℕ-discrete}
 use mathlib.Core.Path.{_≡_, refl, sym, _∙_}
 use mathlib.Core.Logic.{_⊎_, _↔_}
 use mathlib.Core.List.{List, [], _∷_}
-use lib.ListN.{length, take, length-take}
+use lib.ListN.{length, length-take}
 use Rattle.grammar.specs.Words.{Grammar, RuleAt, R, InBounds}
 use Rattle.grammar.specs.Measure.{plain}
 use Rattle.grammar.specs.Refusals.{Accepted}
@@ -17,12 +17,13 @@ use Rattle.grammar.proofs.ConstructorsDiffer.{none-not-some}
 use Rattle.grammar.proofs.LayoutExact.{rule-at, rule-below}
 use Rattle.grammar.proofs.Dead.{open-reached}
 use Rattle.grammar.proofs.Unique.{total-unique}
-use Rattle.grammar.proofs.Certificate.{wordSize, symbol-nonterminal}
-use Rattle.grammar.proofs.ContextCertificate.{Holds, othersSize}
-use Rattle.grammar.proofs.FigureCertificate.{AreFigures, FigureCertificate, figure-certificate}
+use Rattle.grammar.specs.Certificates.{wordSize, Holds, othersSize, AreFigures, FigureCertificate}
+use Rattle.grammar.proofs.Certificate.{symbol-nonterminal}
+use Rattle.grammar.proofs.FigureCertificate.{figure-certificate}
 use Rattle.tables.specs.Table.{HasTable, tableLength, entry, totalEntry}
 use Rattle.tables.specs.Tests.{PlacePasses, leastIn, sizeIn, StartPasses, TablePasses}
-use Rattle.tables.proofs.TablePlaces.{figuresOf, entry-front, total-front}
+use Rattle.tables.specs.TableCertificates.{figuresOf}
+use Rattle.tables.proofs.TablePlaces.{entry-front, total-front}
 
 -- the sizes of symbols are the figure of a nonterminal among them and the sizes beside it
 module _ (g : Grammar) (v : ℕ → ℕ) where

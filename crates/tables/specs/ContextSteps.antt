@@ -7,7 +7,7 @@ use mathlib.Core.List.{List, [], _∷_}
 use lib.ListN.{length, set}
 use Rattle.grammar.specs.Words.{Grammar, RuleAt}
 use Rattle.grammar.specs.Measure.{plain}
-use Rattle.grammar.proofs.ContextCertificate.{Holds, othersSize}
+use Rattle.grammar.specs.Certificates.{Holds, othersSize}
 use Rattle.tables.specs.Figures.{figure, Has, capped, Lowered, LeastsDone, SizesOf, ContextsSound, ContextQuiet}
 use Rattle.grammar.proofs.RulesInView.{View}
 

@@ -2,10 +2,19 @@
 -- it is found out: some declared nonterminal stands in no complete tree of the start. That `tables` answers 5 or 6 to exactly the
 -- dead grammars is a law (proofs/DeadGrammars). Assumes nothing.
 use Prim.Native.Nat.{ℕ, _<_}
+use mathlib.Core.Path.{_≡_}
+use mathlib.Core.Logic.{_⊎_}
+use Rattle.answers.specs.Refusals.{no-tree, unreached}
 use Rattle.grammar.specs.Words.{Grammar}
 use Rattle.grammar.specs.Tree.{Tree, StandsIn}
+use Rattle.tables.specs.Promise.{refused}
+use Rattle.tables.specs.declared.TableAnswer.{TableAnswer}
 
 pub record Dead (g : Grammar) : Type 0 where
   pub A : ℕ
   pub nonterminal : A < g .N
   pub nowhere : (t : Tree g (g .start)) → ¬ StandsIn g A t
+
+-- the answer is 5, or 6
+abbrev pub SaysDead : TableAnswer → Type 0
+SaysDead a = (A : ℕ) × ((a ≡ refused (no-tree A)) ⊎ (a ≡ refused (unreached A)))

@@ -8,14 +8,11 @@ use mathlib.Core.Path.{_≡_}
 use mathlib.Core.Bool.{Bool, true, false}
 use mathlib.Core.List.{List, [], _∷_}
 use lib.ListN.{length, getD, set, replicate}
-use Rattle.grammar.specs.Words.{Grammar, RuleAt, R, placeOf, layout, reads}
+use Rattle.grammar.specs.Words.{Grammar, RuleAt, R}
 use Rattle.grammar.specs.Tree.{_∈_}
 use Rattle.grammar.specs.Measure.{plain}
-use Rattle.grammar.proofs.Certificate.{wordSize}
-use Rattle.grammar.proofs.ContextCertificate.{Holds, othersSize}
-use Rattle.grammar.proofs.Cap.{plainCap}
-use Rattle.grammar.proofs.CappedLeasts.{OfTree}
-use Rattle.grammar.proofs.CappedContexts.{OfOpen}
+use Rattle.grammar.specs.Certificates.{wordSize, Holds, othersSize}
+use Rattle.grammar.specs.Caps.{plainCap, OfTree, OfOpen}
 use Rattle.tables.specs.declared.figures.Found.{Found}
 use Rattle.tables.specs.declared.figures.Found.the-variants.{At, Nothing}
 

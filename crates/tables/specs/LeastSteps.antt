@@ -7,7 +7,7 @@ use mathlib.Core.List.{List}
 use lib.ListN.{length, getD, set}
 use Rattle.grammar.specs.Words.{Grammar, RuleAt}
 use Rattle.grammar.specs.Measure.{plain}
-use Rattle.grammar.proofs.Certificate.{wordSize}
+use Rattle.grammar.specs.Certificates.{wordSize}
 use Rattle.tables.specs.Figures.{figure, capped, HaveIn, Lowered, LeastsSound, LeastQuiet, LeastsRest, LeastsDone, SizesOf}
 use Rattle.tables.specs.declared.leasts.Size.{Size}
 use Rattle.tables.specs.declared.leasts.Size.the-variants.{Of, NotYet}

@@ -12,8 +12,7 @@ use lib.ListN.{length, getD}
 use Rattle.grammar.specs.Words.{Grammar, RuleAt}
 use Rattle.grammar.specs.Measure.{plain}
 use Rattle.grammar.specs.Rules.{rightAt}
-use Rattle.grammar.proofs.Certificate.{wordSize}
-use Rattle.grammar.proofs.ContextCertificate.{Holds}
+use Rattle.grammar.specs.Certificates.{wordSize, Holds}
 use Rattle.tables.specs.Table.{tableLength, entry, totalEntry}
 use Rattle.grammar.proofs.RulesInView.{View}
 
