@@ -2,16 +2,17 @@
 -- back makes of it, and what is behind the tokens in front, with these stored. Assumes nothing.
 use mathlib.Core.Path.{_≡_, refl, sym, ap, _∙_}
 use mathlib.Core.List.{List, [], _∷_, _++_, append-assoc}
-use Prim.Native.Nat.{ℕ, zero, suc, _+_, _-_, _≤_, _<_}
+use Prim.Native.Nat.{ℕ, zero, suc, _+_, _*_, _-_, _≤_, _<_}
 use native.Mathlib.Decide.{decLt}
 use native.Mathlib.Nat.{not-suc-le-zero, add-zero}
 use native.Mathlib.Numerals.{add-one}
 use native.Mathlib.Omega.{arith}
 use lib.ListN.{length, getD, set}
-use lib.Seq.{sets, set-out, getD-set-same, getD-set-other}
+use lib.Seq.{sets, set-out, getD-set-same, getD-set-other, lt-length-set}
 use Rattle.answers.proofs.Stores.{sets-append}
 use Rattle.grammar.specs.Walk.{countAt}
-use Rattle.replay.specs.Forms.{side, waiting, formOf, waitingAbove, behind, TokensEnd, Passed, Openable, Opened}
+use Rattle.replay.specs.Forms.{side, atOf, leftOf, pushed, waiting, formOf, waitingAbove, behind}
+use Rattle.replay.specs.Forms.{TokensEnd, Passed, Openable, Opened}
 use Rattle.replay.specs.declared.forms.Open.{Open}
 
 -- so many words from an index on
@@ -57,59 +58,76 @@ side-is ws (s ∷ w) at h =
     rw (first, later)
 
 -- the rests that wait
-waiting-last : (ws ats lefts : List ℕ) (d : ℕ) → 0 < d →
-    waiting ws ats lefts d ≡ side ws (getD ats (d - 1) 0) (getD lefts (d - 1) 0) ++ waiting ws ats lefts (d - 1)
+waiting-last : (ws stack : List ℕ) (d : ℕ) → 0 < d →
+    waiting ws stack d ≡ side ws (atOf stack (d - 1)) (leftOf stack (d - 1)) ++ waiting ws stack (d - 1)
 unfolding waiting
-waiting-last ws ats lefts zero h = absurd (not-suc-le-zero h)
-waiting-last ws ats lefts (suc d) h = let e : suc d - 1 ≡ d = omega arith in rw e
+waiting-last ws stack zero h = absurd (not-suc-le-zero h)
+waiting-last ws stack (suc d) h = let e : suc d - 1 ≡ d = omega arith in rw e
 
-waiting-none : (ws ats lefts : List ℕ) (d : ℕ) → d ≡ 0 → waiting ws ats lefts d ≡ []
+waiting-none : (ws stack : List ℕ) (d : ℕ) → d ≡ 0 → waiting ws stack d ≡ []
 unfolding waiting
-waiting-none ws ats lefts d e = rw e
+waiting-none ws stack d e = rw e
 
--- a store above them changes none that waits
-waiting-below : (ws ats lefts : List ℕ) (e x y d : ℕ) → d ≤ e →
-    waiting ws (set ats e x) (set lefts e y) d ≡ waiting ws ats lefts d
-unfolding waiting
-waiting-below ws ats lefts e x y zero h = refl
-waiting-below ws ats lefts e x y (suc d) h =
-    let p = getD-set-other ats e d x 0 (λ q. omega arith) in
-    let q = getD-set-other lefts e d y 0 (λ q. omega arith) in
-    rw (p, q, waiting-below ws ats lefts e x y d (omega arith))
+-- what the stack holds after a store at the height e: there, and below
+module _ (stack : List ℕ) (e x y : ℕ) where
+  at-same : 2 * e + 1 < length stack → atOf (pushed stack e x y) e ≡ x
+  at-same h =
+      getD-set-other (set stack (2 * e) x) (2 * e + 1) (2 * e) y 0 (λ q. omega arith) ∙
+      getD-set-same stack (2 * e) x 0 (omega arith)
 
-waiting-pushed : (ws ats lefts : List ℕ) (d x y : ℕ) → d < length ats → d < length lefts →
-    waiting ws (set ats d x) (set lefts d y) (d + 1) ≡ side ws x y ++ waiting ws ats lefts d
-unfolding waiting
-waiting-pushed ws ats lefts d x y h k =
-    rw (add-one, getD-set-same ats d x 0 h, getD-set-same lefts d y 0 k, waiting-below ws ats lefts d x y d (omega arith))
+  left-same : 2 * e + 1 < length stack → leftOf (pushed stack e x y) e ≡ y
+  left-same h = getD-set-same (set stack (2 * e) x) (2 * e + 1) y 0 (lt-length-set stack (2 * e) x h)
 
-module _ (ws ats lefts : List ℕ) (o : Open) where
-  pub form-first : 0 < o .left → formOf ws ats lefts o ≡ getD ws (o .at) 0 ∷ formOf ws ats lefts (behind o)
-  form-first h = ap (λ (l : List ℕ). l ++ waiting ws ats lefts (o .depth)) (side-first ws (o .at) (o .left) h)
+  at-below : (d : ℕ) → d < e → atOf (pushed stack e x y) d ≡ atOf stack d
+  at-below d h =
+      getD-set-other (set stack (2 * e) x) (2 * e + 1) (2 * d) y 0 (λ q. omega arith) ∙
+      getD-set-other stack (2 * e) (2 * d) x 0 (λ q. omega arith)
 
-  pub form-above : o .left ≡ 0 → 0 < o .depth → formOf ws ats lefts o ≡ formOf ws ats lefts (waitingAbove ats lefts o)
+  left-below : (d : ℕ) → d < e → leftOf (pushed stack e x y) d ≡ leftOf stack d
+  left-below d h =
+      getD-set-other (set stack (2 * e) x) (2 * e + 1) (2 * d + 1) y 0 (λ q. omega arith) ∙
+      getD-set-other stack (2 * e) (2 * d + 1) x 0 (λ q. omega arith)
+
+  waiting-below : (ws : List ℕ) (d : ℕ) → d ≤ e → waiting ws (pushed stack e x y) d ≡ waiting ws stack d
+  unfolding waiting
+  waiting-below ws zero h = refl
+  waiting-below ws (suc d) h =
+      let at = at-below d (omega arith) in
+      let left = left-below d (omega arith) in
+      rw (at, left, waiting-below ws d (omega arith))
+
+  waiting-pushed : (ws : List ℕ) → 2 * e + 1 < length stack →
+      waiting ws (pushed stack e x y) (e + 1) ≡ side ws x y ++ waiting ws stack e
+  unfolding waiting
+  waiting-pushed ws h = rw (add-one e, at-same h, left-same h, waiting-below ws e (omega arith))
+
+module _ (ws stack : List ℕ) (o : Open) where
+  pub form-first : 0 < o .left → formOf ws stack o ≡ getD ws (o .at) 0 ∷ formOf ws stack (behind o)
+  form-first h = ap (λ (l : List ℕ). l ++ waiting ws stack (o .depth)) (side-first ws (o .at) (o .left) h)
+
+  pub form-above : o .left ≡ 0 → 0 < o .depth → formOf ws stack o ≡ formOf ws stack (waitingAbove stack o)
   form-above e h =
-      ap (λ (l : List ℕ). l ++ waiting ws ats lefts (o .depth)) (side-none ws (o .at) (o .left) e) ∙
-      waiting-last ws ats lefts (o .depth) h
+      ap (λ (l : List ℕ). l ++ waiting ws stack (o .depth)) (side-none ws (o .at) (o .left) e) ∙
+      waiting-last ws stack (o .depth) h
 
-  pub form-empty : o .left ≡ 0 → o .depth ≡ 0 → formOf ws ats lefts o ≡ []
+  pub form-empty : o .left ≡ 0 → o .depth ≡ 0 → formOf ws stack o ≡ []
   form-empty e h =
-      ap (λ (l : List ℕ). l ++ waiting ws ats lefts (o .depth)) (side-none ws (o .at) (o .left) e) ∙
-      waiting-none ws ats lefts (o .depth) h
+      ap (λ (l : List ℕ). l ++ waiting ws stack (o .depth)) (side-none ws (o .at) (o .left) e) ∙
+      waiting-none ws stack (o .depth) h
 
   -- tokens passed
   pub form-passed : {n : ℕ} {sentence sentence′ : List ℕ} {o′ : Open} (p : Passed ws n o sentence o′ sentence′) →
-      formOf ws ats lefts o ≡ p .ts ++ formOf ws ats lefts o′
+      formOf ws stack o ≡ p .ts ++ formOf ws stack o′
   form-passed {o′ = o′} p =
-      ap (λ (l : List ℕ). l ++ waiting ws ats lefts (o .depth)) (p .symbols) ∙
-      append-assoc (p .ts) (side ws (o′ .at) (o′ .left)) (waiting ws ats lefts (o .depth)) ∙
-      ap (λ (d : ℕ). p .ts ++ formOf ws ats lefts (record { at = o′ .at; left = o′ .left; depth = d; next = 0; tokens = 0 }))
+      ap (λ (l : List ℕ). l ++ waiting ws stack (o .depth)) (p .symbols) ∙
+      append-assoc (p .ts) (side ws (o′ .at) (o′ .left)) (waiting ws stack (o .depth)) ∙
+      ap (λ (d : ℕ). p .ts ++ formOf ws stack (record { at = o′ .at; left = o′ .left; depth = d; next = 0; tokens = 0 }))
       (sym (p .same-depth))
 
-  module _ (at : ℕ) (openable : Openable ws at ats lefts o) where
+  module _ (at : ℕ) (openable : Openable ws at stack o) where
     -- nothing is behind the symbol, so nothing waits more
     pub opened-last : {left : ℕ} → o .left ≡ 1 → left ≡ countAt ws at →
-        Opened ws at ats lefts o ats lefts
+        Opened ws at stack o stack
         (record { at = at + 2; left = left; depth = o .depth; next = o .next + 1; tokens = o .tokens })
     opened-last e c =
         let none = side-none ws (o .at + 1) (o .left - 1) (omega arith) in
@@ -123,36 +141,36 @@ module _ (ws ats lefts : List ℕ) (o : Open) where
         }
 
     -- what is behind it waits
-    pub opened : {ats′ lefts′ : List ℕ} {left : ℕ} → ats′ ≡ set ats (o .depth) (o .at + 1) →
-        lefts′ ≡ set lefts (o .depth) (o .left - 1) → left ≡ countAt ws at →
-        Opened ws at ats lefts o ats′ lefts′
+    abbrev after : List ℕ
+    after = pushed stack (o .depth) (o .at + 1) (o .left - 1)
+
+    pub opened : {stack′ : List ℕ} {left : ℕ} → stack′ ≡ pushed stack (o .depth) (o .at + 1) (o .left - 1) →
+        left ≡ countAt ws at →
+        Opened ws at stack o stack′
         (record { at = at + 2; left = left; depth = o .depth + 1; next = o .next + 1; tokens = o .tokens })
-    opened p q c =
-        let d = o .depth in
-        let pushed = waiting-pushed ws ats lefts d (o .at + 1) (o .left - 1) (openable .room-ats) (openable .room-lefts) in
+    opened p c =
+        let waits = waiting-pushed stack (o .depth) (o .at + 1) (o .left - 1) ws (openable .room) in
         record {
-          form = rw (p, q, c) (ap (λ (l : List ℕ). side ws (at + 2) (countAt ws at) ++ l) pushed);
+          form = rw (p, c) (ap (λ (l : List ℕ). side ws (at + 2) (countAt ws at) ++ l) waits);
           inside = omega (arith, openable .whole);
-          all-inside = rw (p, q) all-inside;
+          all-inside = rw p all-inside;
           deeper = omega arith;
           one-more = refl;
           same-tokens = refl;
         }
       where
-        all-inside : (i : ℕ) → i < o .depth + 1 →
-            getD (set ats (o .depth) (o .at + 1)) i 0 + getD (set lefts (o .depth) (o .left - 1)) i 0 ≤ length ws
+        all-inside : (i : ℕ) → i < o .depth + 1 → atOf after i + leftOf after i ≤ length ws
         all-inside i m = go (decLt i (o .depth))
           where
-            go : Dec (i < o .depth) →
-                getD (set ats (o .depth) (o .at + 1)) i 0 + getD (set lefts (o .depth) (o .left - 1)) i 0 ≤ length ws
+            go : Dec (i < o .depth) → atOf after i + leftOf after i ≤ length ws
             go (yes b) =
-                let p = getD-set-other ats (o .depth) i (o .at + 1) 0 (λ q. omega arith) in
-                let q = getD-set-other lefts (o .depth) i (o .left - 1) 0 (λ q. omega arith) in
+                let p = at-below stack (o .depth) (o .at + 1) (o .left - 1) i b in
+                let q = left-below stack (o .depth) (o .at + 1) (o .left - 1) i b in
                 omega (arith, openable .all-inside i b)
             go (no b) =
                 let same : i ≡ o .depth = omega arith in
-                let p = getD-set-same ats (o .depth) (o .at + 1) 0 (openable .room-ats) in
-                let q = getD-set-same lefts (o .depth) (o .left - 1) 0 (openable .room-lefts) in
+                let p = at-same stack (o .depth) (o .at + 1) (o .left - 1) (openable .room) in
+                let q = left-same stack (o .depth) (o .at + 1) (o .left - 1) (openable .room) in
                 rw same (omega (arith, openable .inside, openable .some))
 
 -- stores past the end change nothing

@@ -2,7 +2,7 @@
 -- comes to from there on; at the end nothing but they is left. And so the rows of document 01. Assumes nothing.
 use mathlib.Core.Path.{_≡_, refl, sym, ap, _∙_, subst}
 use mathlib.Core.List.{List, [], _++_}
-use Prim.Native.Nat.{ℕ, _+_, _≤_, _<_}
+use Prim.Native.Nat.{ℕ, _+_, _*_, _≤_, _<_}
 use native.Mathlib.Omega.{arith}
 use lib.ListN.{length, take, length-append}
 use lib.Seq.{sets, sets-eq}
@@ -29,56 +29,55 @@ use Rattle.replay.specs.declared.ReplayAnswer.the-variants.{Done, Refuse
 use Rattle.replay.proofs.ReplayMoves.{all-front-append, all-front-derived, all-front-stopped}
 use Rattle.replay.proofs.ReplayStepped.{counted, passes}
 
-pub record Held (g : Grammar) (ws list ats lefts : List ℕ) (o : Open) (before sentence : List ℕ) : Type 0 where
+pub record Held (g : Grammar) (ws list stack : List ℕ) (o : Open) (before sentence : List ℕ) : Type 0 where
   pub passed : List ℕ
   pub count : o .tokens ≡ length passed
   pub holds : sentence ≡ sets before 0 passed
-  pub replays : replay g list ≡ allFront passed (rest g ws list ats lefts o)
+  pub replays : replay g list ≡ allFront passed (rest g ws list stack o)
 
 -- the start symbol is the word 2
 abbrev pub outset : Open
 outset = record { at = 2; left = 1; depth = 0; next = 0; tokens = 0 }
 
-start-form : (ws ats lefts : List ℕ) (g : Grammar) → layout ws ≡ reads g → formOf ws ats lefts outset ≡ Start g
+start-form : (ws stack : List ℕ) (g : Grammar) → layout ws ≡ reads g → formOf ws stack outset ≡ Start g
 unfolding side waiting
-start-form ws ats lefts g e = rw (layout-exact ws g .0 e .1)
+start-form ws stack g e = rw (layout-exact ws g .0 e .1)
 
-pub held-start : {ws starts : List ℕ} {n rules : ℕ} (g : Grammar) → View ws starts n rules g → (list ats lefts before : List ℕ) →
-    Held g ws list ats lefts outset before before
+pub held-start : {ws starts : List ℕ} {n rules : ℕ} (g : Grammar) → View ws starts n rules g → (list stack before : List ℕ) →
+    Held g ws list stack outset before before
 unfolding replay
-held-start {ws} g view list ats lefts before = record {
+held-start {ws} g view list stack before = record {
   passed = [];
   count = refl;
   holds = refl;
-  replays = ap (replayed g list 0) (sym (start-form ws ats lefts g (view .is)));
+  replays = ap (replayed g list 0) (sym (start-form ws stack g (view .is)));
 }
 
-kept-size : (ws ats lefts : List ℕ) → length (formOf ws ats lefts outset) ≡ 1
+kept-size : (ws stack : List ℕ) → length (formOf ws stack outset) ≡ 1
 unfolding side waiting
-kept-size ws ats lefts = refl
+kept-size ws stack = refl
 
-pub kept-start : {ws list ats lefts : List ℕ} → 3 ≤ length ws → length list ≤ length ats → length list ≤ length lefts →
-    Kept ws list ats lefts outset
-kept-start {ws} {list} {ats} {lefts} h k l = record {
-  room-ats = k;
-  room-lefts = l;
+pub kept-start : {ws list stack : List ℕ} → 3 ≤ length ws → 2 * length list ≤ length stack →
+    Kept ws list stack outset
+kept-start {ws} {list} {stack} h k = record {
+  room = k;
   inside = h;
   all-inside = λ i m. absurd (let z : i < 0 = m in omega arith);
   waits = omega arith;
   used = omega arith;
-  few-tokens = omega (arith, kept-size ws ats lefts);
+  few-tokens = omega (arith, kept-size ws stack);
 }
 
 -- a move, by what it is
-pub onward : {ws list ats lefts ats′ lefts′ : List ℕ} {o o′ : Open} (m : Move) → m ≡ On o′ →
-    Bounded ws list ats lefts o m ats′ lefts′ → Onward ws list ats lefts o ats′ lefts′ o′
-onward {ws} {list} {ats} {lefts} {ats′} {lefts′} {o} m e z =
-    subst (λ (x : Move). Bounded ws list ats lefts o x ats′ lefts′) e z
+pub onward : {ws list stack stack′ : List ℕ} {o o′ : Open} (m : Move) → m ≡ On o′ →
+    Bounded ws list stack o m stack′ → Onward ws list stack o stack′ o′
+onward {ws} {list} {stack} {stack′} {o} m e z =
+    subst (λ (x : Move). Bounded ws list stack o x stack′) e z
 
-module _ {g : Grammar} {ws list ats lefts : List ℕ} {o : Open} {before sentence : List ℕ}
-    (held : Held g ws list ats lefts o before sentence) where
-  pub held-passed : {starts : List ℕ} {n rules : ℕ} {o′ : Open} {sentence′ : List ℕ} → Kept ws list ats lefts o →
-      View ws starts n rules g → Passed ws n o sentence o′ sentence′ → Held g ws list ats lefts o′ before sentence′
+module _ {g : Grammar} {ws list stack : List ℕ} {o : Open} {before sentence : List ℕ}
+    (held : Held g ws list stack o before sentence) where
+  pub held-passed : {starts : List ℕ} {n rules : ℕ} {o′ : Open} {sentence′ : List ℕ} → Kept ws list stack o →
+      View ws starts n rules g → Passed ws n o sentence o′ sentence′ → Held g ws list stack o′ before sentence′
   held-passed kept view p = record {
     passed = held .passed ++ p .ts;
     count = omega (arith, held .count, p .more-tokens, length-append (held .passed) (p .ts));
@@ -90,11 +89,11 @@ module _ {g : Grammar} {ws list ats lefts : List ℕ} {o : Open} {before sentenc
         sym (all-front-append (held .passed) (p .ts) _);
   }
 
-  module _ (ats′ lefts′ : List ℕ) (m : Move) (turned : Turned g ws list ats lefts o m ats′ lefts′) where
-    by : {m′ : Move} → m ≡ m′ → Turned g ws list ats lefts o m′ ats′ lefts′
-    by e = subst (λ (x : Move). Turned g ws list ats lefts o x ats′ lefts′) e turned
+  module _ (stack′ : List ℕ) (m : Move) (turned : Turned g ws list stack o m stack′) where
+    by : {m′ : Move} → m ≡ m′ → Turned g ws list stack o m′ stack′
+    by e = subst (λ (x : Move). Turned g ws list stack o x stack′) e turned
 
-    pub held-on : {o′ : Open} → m ≡ On o′ → Held g ws list ats′ lefts′ o′ before sentence
+    pub held-on : {o′ : Open} → m ≡ On o′ → Held g ws list stack′ o′ before sentence
     held-on e = record {
       passed = held .passed;
       count = by e .0 ∙ held .count;

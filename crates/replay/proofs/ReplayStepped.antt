@@ -31,35 +31,34 @@ module _ {ws starts : List ℕ} {n rules : ℕ} {g : Grammar} (view : View ws st
       ap (λ (p : ℕ). side ws (p + 2) (length w)) (view .begin k (rule-number r)) ∙
       side-is ws w (placeOf g k + 2) (places.symbol-stands ws g (view .is) k A w (r .stands))
 
-module _ {ws list ats lefts : List ℕ} {o : Open} (kept : Kept ws list ats lefts o) where
+module _ {ws list stack : List ℕ} {o : Open} (kept : Kept ws list stack o) where
   abbrev first : ℕ
   first = getD ws (o .at) 0
 
   -- the replay of a form that is what is left
-  from : (g : Grammar) {σ : List ℕ} → formOf ws ats lefts o ≡ σ →
-      rest g ws list ats lefts o ≡ replayed g (drop (o .next) list) (o .next) σ
+  from : (g : Grammar) {σ : List ℕ} → formOf ws stack o ≡ σ →
+      rest g ws list stack o ≡ replayed g (drop (o .next) list) (o .next) σ
   from g e = ap (replayed g (drop (o .next) list) (o .next)) e
 
   -- nothing is left
   pub nothing-stops : (g : Grammar) → o .left ≡ 0 → o .depth ≡ 0 → o .next < length list →
-      rest g ws list ats lefts o ≡ stopped (o .next)
-  nothing-stops g e d h = from g (form-empty ws ats lefts o e d) ∙ moves.stops-empty g list (o .next) h
+      rest g ws list stack o ≡ stopped (o .next)
+  nothing-stops g e d h = from g (form-empty ws stack o e d) ∙ moves.stops-empty g list (o .next) h
 
-  pub nothing-ends : (g : Grammar) → o .left ≡ 0 → o .depth ≡ 0 → length list ≤ o .next → rest g ws list ats lefts o ≡ derived []
-  nothing-ends g e d h = from g (form-empty ws ats lefts o e d) ∙ moves.completes g list (o .next) h
+  pub nothing-ends : (g : Grammar) → o .left ≡ 0 → o .depth ≡ 0 → length list ≤ o .next → rest g ws list stack o ≡ derived []
+  nothing-ends g e d h = from g (form-empty ws stack o e d) ∙ moves.completes g list (o .next) h
 
   -- a right side is at its end
   pub back : (g : Grammar) → o .left ≡ 0 → 0 < o .depth →
-      rest g ws list ats lefts o ≡ rest g ws list ats lefts (waitingAbove ats lefts o)
-  back g e d = from g (form-above ws ats lefts o e d)
+      rest g ws list stack o ≡ rest g ws list stack (waitingAbove stack o)
+  back g e d = from g (form-above ws stack o e d)
 
-  pub back-bounded : o .left ≡ 0 → 0 < o .depth → Onward ws list ats lefts o ats lefts (waitingAbove ats lefts o)
+  pub back-bounded : o .left ≡ 0 → 0 < o .depth → Onward ws list stack o stack (waitingAbove stack o)
   back-bounded e d =
-      let same = ap length (form-above ws ats lefts o e d) in
+      let same = ap length (form-above ws stack o e d) in
       record {
         kept = record {
-          room-ats = kept .room-ats;
-          room-lefts = kept .room-lefts;
+          room = kept .room;
           inside = kept .all-inside (o .depth - 1) (omega arith);
           all-inside = λ i l. kept .all-inside i (omega arith);
           waits = omega (arith, kept .waits);
@@ -75,72 +74,70 @@ module _ {ws list ats lefts : List ℕ} {o : Open} (kept : Kept ws list ats left
       nonterminal : first < g .N
       nonterminal = omega (arith, view .nonterminals)
 
-      pub none-left : length list ≤ o .next → rest g ws list ats lefts o ≡ stopped (o .next)
+      pub none-left : length list ≤ o .next → rest g ws list stack o ≡ stopped (o .next)
       none-left h =
-          from g (form-first ws ats lefts o some) ∙ moves.stops-remaining g list (o .next) first _ h nonterminal
+          from g (form-first ws stack o some) ∙ moves.stops-remaining g list (o .next) first _ h nonterminal
 
       -- the next number, k
       module _ {k : ℕ} (is : k ≡ getD list (o .next) 0) (more : o .next < length list) where
-        pub no-rule : rules ≤ k → rest g ws list ats lefts o ≡ stopped (o .next)
+        pub no-rule : rules ≤ k → rest g ws list stack o ≡ stopped (o .next)
         no-rule l =
-            from g (form-first ws ats lefts o some) ∙
+            from g (form-first ws stack o some) ∙
             moves.stops-past g list (o .next) first _ more nonterminal (omega (arith, view .all-rules))
 
         numbered : {A : ℕ} {w : List ℕ} → RuleAt g k A w → RuleAt g (getD list (o .next) 0) A w
         numbered {A} {w} r = subst (λ (j : ℕ). RuleAt g j A w) is r
 
-        pub other-rule : k < rules → ¬ (getD ws (getD starts k 0) 0 ≡ first) → rest g ws list ats lefts o ≡ stopped (o .next)
+        pub other-rule : k < rules → ¬ (getD ws (getD starts k 0) 0 ≡ first) → rest g ws list stack o ≡ stopped (o .next)
         other-rule l ne =
             let (A, w, r) = viewed-rule view k l in
-            from g (form-first ws ats lefts o some) ∙
+            from g (form-first ws stack o some) ∙
             moves.stops-other g list (o .next) first A _ w more nonterminal (numbered r) (λ e. ne (viewed-left view r ∙ e))
 
-        pub opens : {ats′ lefts′ : List ℕ} {o′ : Open} → k < rules → getD ws (getD starts k 0) 0 ≡ first →
-            Opened ws (getD starts k 0) ats lefts o ats′ lefts′ o′ →
-            (o′ .tokens ≡ o .tokens) × (rest g ws list ats lefts o ≡ rest g ws list ats′ lefts′ o′)
-        opens {ats′} {lefts′} {o′} l e opened =
+        pub opens : {stack′ : List ℕ} {o′ : Open} → k < rules → getD ws (getD starts k 0) 0 ≡ first →
+            Opened ws (getD starts k 0) stack o stack′ o′ →
+            (o′ .tokens ≡ o .tokens) × (rest g ws list stack o ≡ rest g ws list stack′ o′)
+        opens {stack′} {o′} l e opened =
             let (A, w, r) = viewed-rule view k l in
             let same : A ≡ first = sym (viewed-left view r) ∙ e in
             let r′ = subst (λ (B : ℕ). RuleAt g (getD list (o .next) 0) B w) same (numbered r) in
-            let form : w ++ formOf ws ats lefts (behind o) ≡ formOf ws ats′ lefts′ o′ =
-            ap (λ (l : List ℕ). l ++ formOf ws ats lefts (behind o)) (sym (right-side view r)) ∙ sym (opened .form) in (
+            let form : w ++ formOf ws stack (behind o) ≡ formOf ws stack′ o′ =
+            ap (λ (l : List ℕ). l ++ formOf ws stack (behind o)) (sym (right-side view r)) ∙ sym (opened .form) in (
               opened .same-tokens,
-              from g (form-first ws ats lefts o some) ∙ moves.opens g list (o .next) first _ w more r′ ∙
+              from g (form-first ws stack o some) ∙ moves.opens g list (o .next) first _ w more r′ ∙
                   ap (replayed g (drop (o .next + 1) list) (o .next + 1)) form ∙
-                  ap (λ (m : ℕ). replayed g (drop m list) m (formOf ws ats′ lefts′ o′)) (sym (opened .one-more)),
+                  ap (λ (m : ℕ). replayed g (drop m list) m (formOf ws stack′ o′)) (sym (opened .one-more)),
             )
 
     pub openable : {starts : List ℕ} {rules : ℕ} → Ground ws starts list rules → (k : ℕ) → k < rules → o .next < length list →
-        Openable ws (getD starts k 0) ats lefts o
+        Openable ws (getD starts k 0) stack o
     openable ground k l h = record {
       some = some;
       few-words = ground .few-words;
       few-rules = omega (arith, ground .few-numbers);
-      room-ats = omega (arith, kept .waits, kept .room-ats);
-      room-lefts = omega (arith, kept .waits, kept .room-lefts);
+      room = omega (arith, kept .waits, kept .room);
       inside = kept .inside;
       all-inside = kept .all-inside;
       whole = ground .whole k l;
     }
 
     pub opens-bounded : {starts : List ℕ} {rules : ℕ} → Ground ws starts list rules → (k : ℕ) → k < rules →
-        o .next < length list → {ats′ lefts′ : List ℕ} {o′ : Open} → Opened ws (getD starts k 0) ats lefts o ats′ lefts′ o′ →
-        length ats′ ≡ length ats → length lefts′ ≡ length lefts → Onward ws list ats lefts o ats′ lefts′ o′
-    opens-bounded {starts} ground k l h opened same-ats same-lefts =
+        o .next < length list → {stack′ : List ℕ} {o′ : Open} → Opened ws (getD starts k 0) stack o stack′ o′ →
+        length stack′ ≡ length stack → Onward ws list stack o stack′ o′
+    opens-bounded {starts} ground k l h opened same-length =
         let at = getD starts k 0 in
-        let size = ap length (form-first ws ats lefts o some) in
+        let size = ap length (form-first ws stack o some) in
         let inside = ground .whole k l in
         let few-words = ground .few-words in
         let few-tokens = kept .few-tokens in
         let deeper = opened .deeper in
         let one-more = opened .one-more in
         let whole = ap length (opened .form) in
-        let parts = length-append (side ws (at + 2) (countAt ws at)) (formOf ws ats lefts (behind o)) in
+        let parts = length-append (side ws (at + 2) (countAt ws at)) (formOf ws stack (behind o)) in
         let sized = side-length ws (at + 2) (countAt ws at) in
         record {
           kept = record {
-            room-ats = omega (arith, kept .room-ats);
-            room-lefts = omega (arith, kept .room-lefts);
+            room = omega (arith, kept .room);
             inside = opened .inside;
             all-inside = opened .all-inside;
             waits = omega (arith, kept .waits);
@@ -151,36 +148,35 @@ module _ {ws list ats lefts : List ℕ} {o : Open} (kept : Kept ws list ats left
         }
 
 -- a step back
-pub went-back : {ws list ats lefts : List ℕ} {o o′ : Open} → Kept ws list ats lefts o → o .left ≡ 0 → 0 < o .depth →
-    o′ ≡ waitingAbove ats lefts o → Onward ws list ats lefts o ats lefts o′
+pub went-back : {ws list stack : List ℕ} {o o′ : Open} → Kept ws list stack o → o .left ≡ 0 → 0 < o .depth →
+    o′ ≡ waitingAbove stack o → Onward ws list stack o stack o′
 went-back kept h d e = rw e (back-bounded kept h d)
 
-pub goes-back : {ws list ats lefts : List ℕ} {o o′ : Open} → Kept ws list ats lefts o → o .left ≡ 0 → 0 < o .depth →
-    o′ ≡ waitingAbove ats lefts o → (g : Grammar) →
-    (o′ .tokens ≡ o .tokens) × (rest g ws list ats lefts o ≡ rest g ws list ats lefts o′)
+pub goes-back : {ws list stack : List ℕ} {o o′ : Open} → Kept ws list stack o → o .left ≡ 0 → 0 < o .depth →
+    o′ ≡ waitingAbove stack o → (g : Grammar) →
+    (o′ .tokens ≡ o .tokens) × (rest g ws list stack o ≡ rest g ws list stack o′)
 goes-back kept h d e g = rw e (refl, back kept g h d)
 
 -- tokens passed
-module _ {ws list ats lefts : List ℕ} {n : ℕ} {o o′ : Open} {sentence sentence′ : List ℕ} (kept : Kept ws list ats lefts o)
+module _ {ws list stack : List ℕ} {n : ℕ} {o o′ : Open} {sentence sentence′ : List ℕ} (kept : Kept ws list stack o)
     (passed : Passed ws n o sentence o′ sentence′) where
-  pub passes : (g : Grammar) → g .N ≤ n → rest g ws list ats lefts o ≡ allFront (passed .ts) (rest g ws list ats lefts o′)
+  pub passes : (g : Grammar) → g .N ≤ n → rest g ws list stack o ≡ allFront (passed .ts) (rest g ws list stack o′)
   passes g h =
-      from kept g (form-passed ws ats lefts o passed) ∙
-      moves.replayed-tokens g (passed .ts) (drop (o .next) list) (o .next) (formOf ws ats lefts o′)
+      from kept g (form-passed ws stack o passed) ∙
+      moves.replayed-tokens g (passed .ts) (drop (o .next) list) (o .next) (formOf ws stack o′)
       (λ i l. omega (arith, passed .all-tokens i l)) ∙
-      ap (λ (m : ℕ). allFront (passed .ts) (replayed g (drop m list) m (formOf ws ats lefts o′))) (sym (passed .same-next))
+      ap (λ (m : ℕ). allFront (passed .ts) (replayed g (drop m list) m (formOf ws stack o′))) (sym (passed .same-next))
 
-  passed-size : length (formOf ws ats lefts o) ≡ length (passed .ts) + length (formOf ws ats lefts o′)
-  passed-size = ap length (form-passed ws ats lefts o passed) ∙ length-append (passed .ts) (formOf ws ats lefts o′)
+  passed-size : length (formOf ws stack o) ≡ length (passed .ts) + length (formOf ws stack o′)
+  passed-size = ap length (form-passed ws stack o passed) ∙ length-append (passed .ts) (formOf ws stack o′)
 
-  pub passes-kept : Kept ws list ats lefts o′
+  pub passes-kept : Kept ws list stack o′
   passes-kept =
       let size = passed-size in
       let depth = passed .same-depth in
       let next = passed .same-next in
       record {
-        room-ats = kept .room-ats;
-        room-lefts = kept .room-lefts;
+        room = kept .room;
         inside = omega (arith, kept .inside, passed .same-end);
         all-inside = λ i l. kept .all-inside i (omega arith);
         waits = omega (arith, kept .waits);
@@ -188,5 +184,5 @@ module _ {ws list ats lefts : List ℕ} {n : ℕ} {o o′ : Open} {sentence sent
         few-tokens = omega (arith, kept .few-tokens, passed .more-tokens);
       }
 
-  pub passes-no-more : toDo ws list ats lefts o′ ≤ toDo ws list ats lefts o
+  pub passes-no-more : toDo ws list stack o′ ≤ toDo ws list stack o
   passes-no-more = omega (arith, passed-size, passed .same-depth, passed .same-next)

@@ -1,10 +1,10 @@
 -- For the private functions of forms: what is left of a form, on a stack of right sides, and what the steps do to it. Nobody has
 -- to believe this file; the promises do not cite it.
 -- Assumes nothing.
-use Prim.Native.Nat.{ℕ, zero, suc, _+_, _-_, _≤_, _<_}
+use Prim.Native.Nat.{ℕ, zero, suc, _+_, _*_, _-_, _≤_, _<_}
 use mathlib.Core.Path.{_≡_}
 use mathlib.Core.List.{List, [], _∷_, _++_}
-use lib.ListN.{length, getD}
+use lib.ListN.{length, getD, set}
 use lib.Seq.{sets}
 use Rattle.grammar.specs.Walk.{countAt}
 use Rattle.replay.specs.declared.forms.Open.{Open}
@@ -14,20 +14,30 @@ unfoldable pub side : List ℕ → ℕ → ℕ → List ℕ
 side ws at zero = []
 side ws at (suc left) = getD ws at 0 ∷ side ws (at + 1) left
 
+-- what the stack holds at a height: where the next symbol of a right side is, and how many are left; and with these put there
+abbrev pub atOf : List ℕ → ℕ → ℕ
+atOf stack d = getD stack (2 * d) 0
+
+abbrev pub leftOf : List ℕ → ℕ → ℕ
+leftOf stack d = getD stack (2 * d + 1) 0
+
+abbrev pub pushed : List ℕ → ℕ → ℕ → ℕ → List ℕ
+pushed stack d at left = set (set stack (2 * d) at) (2 * d + 1) left
+
 -- the rests of right sides that wait, from the top down
-unfoldable pub waiting : List ℕ → List ℕ → List ℕ → ℕ → List ℕ
-waiting ws ats lefts zero = []
-waiting ws ats lefts (suc d) = side ws (getD ats d 0) (getD lefts d 0) ++ waiting ws ats lefts d
+unfoldable pub waiting : List ℕ → List ℕ → ℕ → List ℕ
+waiting ws stack zero = []
+waiting ws stack (suc d) = side ws (atOf stack d) (leftOf stack d) ++ waiting ws stack d
 
 -- what is left of the form, its tokens so far passed
-abbrev pub formOf : List ℕ → List ℕ → List ℕ → Open → List ℕ
-formOf ws ats lefts o = side ws (o .at) (o .left) ++ waiting ws ats lefts (o .depth)
+abbrev pub formOf : List ℕ → List ℕ → Open → List ℕ
+formOf ws stack o = side ws (o .at) (o .left) ++ waiting ws stack (o .depth)
 
 -- the innermost right side that waits, read again
-abbrev pub waitingAbove : List ℕ → List ℕ → Open → Open
-waitingAbove ats lefts o = record {
-  at = getD ats (o .depth - 1) 0;
-  left = getD lefts (o .depth - 1) 0;
+abbrev pub waitingAbove : List ℕ → Open → Open
+waitingAbove stack o = record {
+  at = atOf stack (o .depth - 1);
+  left = leftOf stack (o .depth - 1);
   depth = o .depth - 1;
   next = o .next;
   tokens = o .tokens;
@@ -62,21 +72,20 @@ pub record Passed (ws : List ℕ) (n : ℕ) (o : Open) (sentence : List ℕ) (o�
   pub stops : 0 < o′ .left → getD ws (o′ .at) 0 < n
 
 -- the next symbol can be opened by the rule at an index
-pub record Openable (ws : List ℕ) (at : ℕ) (ats lefts : List ℕ) (o : Open) : Type 0 where
+pub record Openable (ws : List ℕ) (at : ℕ) (stack : List ℕ) (o : Open) : Type 0 where
   pub some : 0 < o .left
   pub few-words : length ws ≤ 65535
   pub few-rules : o .next ≤ 4096
-  pub room-ats : o .depth < length ats
-  pub room-lefts : o .depth < length lefts
+  pub room : 2 * o .depth + 1 < length stack
   pub inside : o .at + o .left ≤ length ws
-  pub all-inside : (i : ℕ) → i < o .depth → getD ats i 0 + getD lefts i 0 ≤ length ws
+  pub all-inside : (i : ℕ) → i < o .depth → atOf stack i + leftOf stack i ≤ length ws
   pub whole : at + 2 + countAt ws at ≤ length ws
 
 -- and it was: the rule's symbols stand in its place
-pub record Opened (ws : List ℕ) (at : ℕ) (ats lefts : List ℕ) (o : Open) (ats′ lefts′ : List ℕ) (o′ : Open) : Type 0 where
-  pub form : formOf ws ats′ lefts′ o′ ≡ side ws (at + 2) (countAt ws at) ++ formOf ws ats lefts (behind o)
+pub record Opened (ws : List ℕ) (at : ℕ) (stack : List ℕ) (o : Open) (stack′ : List ℕ) (o′ : Open) : Type 0 where
+  pub form : formOf ws stack′ o′ ≡ side ws (at + 2) (countAt ws at) ++ formOf ws stack (behind o)
   pub inside : o′ .at + o′ .left ≤ length ws
-  pub all-inside : (i : ℕ) → i < o′ .depth → getD ats′ i 0 + getD lefts′ i 0 ≤ length ws
+  pub all-inside : (i : ℕ) → i < o′ .depth → atOf stack′ i + leftOf stack′ i ≤ length ws
   pub deeper : o′ .depth ≤ o .depth + 1
   pub one-more : o′ .next ≡ o .next + 1
   pub same-tokens : o′ .tokens ≡ o .tokens

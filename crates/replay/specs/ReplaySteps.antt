@@ -9,7 +9,7 @@ use lib.Seq.{sets}
 use Rattle.grammar.specs.Words.{Grammar}
 use Rattle.grammar.specs.Walk.{countAt}
 use Rattle.grammar.proofs.Replay.{Replayed, derived, stopped, replayed, replay}
-use Rattle.replay.specs.Forms.{formOf}
+use Rattle.replay.specs.Forms.{atOf, leftOf, formOf}
 use Rattle.replay.specs.declared.forms.Open.{Open}
 use Rattle.replay.specs.declared.derivation.Move.{Move}
 use Rattle.replay.specs.declared.derivation.Move.the-variants.{On, End, Stop}
@@ -17,8 +17,8 @@ use Rattle.replay.specs.declared.derivation.Outcome.{Outcome}
 use Rattle.replay.specs.declared.derivation.Outcome.the-variants.{Sentence, Stopped}
 
 -- what the replay comes to from there
-abbrev pub rest : Grammar → List ℕ → List ℕ → List ℕ → List ℕ → Open → Replayed
-rest g ws list ats lefts o = replayed g (drop (o .next) list) (o .next) (formOf ws ats lefts o)
+abbrev pub rest : Grammar → List ℕ → List ℕ → List ℕ → Open → Replayed
+rest g ws list stack o = replayed g (drop (o .next) list) (o .next) (formOf ws stack o)
 
 -- a token in front of what a replay comes to
 abbrev pub front : ℕ → Replayed → Replayed
@@ -38,35 +38,34 @@ pub record Ground (ws starts list : List ℕ) (rules : ℕ) : Type 0 where
   pub whole : (k : ℕ) → k < rules → getD starts k 0 + 2 + countAt ws (getD starts k 0) ≤ length ws
 
 -- the bounds of what is open
-pub record Kept (ws list ats lefts : List ℕ) (o : Open) : Type 0 where
-  pub room-ats : length list ≤ length ats
-  pub room-lefts : length list ≤ length lefts
+pub record Kept (ws list stack : List ℕ) (o : Open) : Type 0 where
+  pub room : 2 * length list ≤ length stack
   pub inside : o .at + o .left ≤ length ws
-  pub all-inside : (i : ℕ) → i < o .depth → getD ats i 0 + getD lefts i 0 ≤ length ws
+  pub all-inside : (i : ℕ) → i < o .depth → atOf stack i + leftOf stack i ≤ length ws
   pub waits : o .depth ≤ o .next
   pub used : o .next ≤ length list
-  pub few-tokens : o .tokens + length (formOf ws ats lefts o) ≤ 1 + 65535 * o .next
+  pub few-tokens : o .tokens + length (formOf ws stack o) ≤ 1 + 65535 * o .next
 
 -- how much is still to be done, at most
-abbrev pub toDo : List ℕ → List ℕ → List ℕ → List ℕ → Open → ℕ
-toDo ws list ats lefts o = 65537 * (length list - o .next) + length (formOf ws ats lefts o) + o .depth
+abbrev pub toDo : List ℕ → List ℕ → List ℕ → Open → ℕ
+toDo ws list stack o = 65537 * (length list - o .next) + length (formOf ws stack o) + o .depth
 
-pub record Onward (ws list ats lefts : List ℕ) (o : Open) (ats′ lefts′ : List ℕ) (o′ : Open) : Type 0 where
-  pub kept : Kept ws list ats′ lefts′ o′
-  pub less : toDo ws list ats′ lefts′ o′ < toDo ws list ats lefts o
+pub record Onward (ws list stack : List ℕ) (o : Open) (stack′ : List ℕ) (o′ : Open) : Type 0 where
+  pub kept : Kept ws list stack′ o′
+  pub less : toDo ws list stack′ o′ < toDo ws list stack o
 
 -- a move keeps the bounds
-abbrev pub Bounded : List ℕ → List ℕ → List ℕ → List ℕ → Open → Move → List ℕ → List ℕ → Type 0
-Bounded ws list ats lefts o (On o′) ats′ lefts′ = Onward ws list ats lefts o ats′ lefts′ o′
-Bounded ws list ats lefts o (End tokens) ats′ lefts′ = Unit {0}
-Bounded ws list ats lefts o (Stop p) ats′ lefts′ = Unit {0}
+abbrev pub Bounded : List ℕ → List ℕ → List ℕ → Open → Move → List ℕ → Type 0
+Bounded ws list stack o (On o′) stack′ = Onward ws list stack o stack′ o′
+Bounded ws list stack o (End tokens) stack′ = Unit {0}
+Bounded ws list stack o (Stop p) stack′ = Unit {0}
 
 -- what a move makes of the replay
-abbrev pub Turned : Grammar → List ℕ → List ℕ → List ℕ → List ℕ → Open → Move → List ℕ → List ℕ → Type 0
-Turned g ws list ats lefts o (On o′) ats′ lefts′ =
-    (o′ .tokens ≡ o .tokens) × (rest g ws list ats lefts o ≡ rest g ws list ats′ lefts′ o′)
-Turned g ws list ats lefts o (End tokens) ats′ lefts′ = (tokens ≡ o .tokens) × (rest g ws list ats lefts o ≡ derived [])
-Turned g ws list ats lefts o (Stop p) ats′ lefts′ = rest g ws list ats lefts o ≡ stopped p
+abbrev pub Turned : Grammar → List ℕ → List ℕ → List ℕ → Open → Move → List ℕ → Type 0
+Turned g ws list stack o (On o′) stack′ =
+    (o′ .tokens ≡ o .tokens) × (rest g ws list stack o ≡ rest g ws list stack′ o′)
+Turned g ws list stack o (End tokens) stack′ = (tokens ≡ o .tokens) × (rest g ws list stack o ≡ derived [])
+Turned g ws list stack o (Stop p) stack′ = rest g ws list stack o ≡ stopped p
 
 -- the whole list is replayed: these tokens are passed and stored, or it stops
 pub record Whole (g : Grammar) (list before after : List ℕ) (tokens : ℕ) : Type 0 where

@@ -1,6 +1,6 @@
 // Replaying a list of rule numbers from the start, without recursion: of the right side that is read, the index of the next
 // symbol and how many symbols are left; the others wait on a stack, which holds at most one for each number of the list.
-ghost use Prim.Native.Nat.{ℕ, _≤_, _<_};
+ghost use Prim.Native.Nat.{ℕ, _*_, _≤_, _<_};
 ghost use lib.ListN.{length, getD};
 ghost use Rattle.grammar.specs.Words.{Grammar};
 ghost use Rattle.grammar.proofs.RulesInView.{View};
@@ -32,17 +32,16 @@ fn expand(
     rules: usize,
     list: &[u16],
     form: Open,
-    ats: &mut [u16],
-    lefts: &mut [u16],
+    stack: &mut [u16],
 ) -> Move
     requires { ⌜ (0 < form .left) × (Ground (now words) (now starts) (now list) rules ×
-        Kept (now words) (now list) (now ats) (now lefts) form) ⌝ }
-    ensures { λ r. ⌜ Bounded (now (words .entry)) (now (list .entry)) (now (ats .entry)) (now (lefts .entry)) form r
-        (now (ats .exit)) (now (lefts .exit)) ⌝ }
+        Kept (now words) (now list) (now stack) form) ⌝ }
+    ensures { λ r. ⌜ Bounded (now (words .entry)) (now (list .entry)) (now (stack .entry)) form r
+        (now (stack .exit)) ⌝ }
     ensures { λ r. ⌜ ((g : Grammar) (n : ℕ) → View (now (words .entry)) (now (starts .entry)) n rules g →
         getD (now (words .entry)) (form .at) 0 < n →
-        Turned g (now (words .entry)) (now (list .entry)) (now (ats .entry)) (now (lefts .entry)) form r
-        (now (ats .exit)) (now (lefts .exit))) ⌝ }
+        Turned g (now (words .entry)) (now (list .entry)) (now (stack .entry)) form r
+        (now (stack .exit))) ⌝ }
 {
     let next = form.next;
     if list.len() <= next {
@@ -57,7 +56,7 @@ fn expand(
     if words[at] != words[open] {
         return Move::Stop { place: next };
     }
-    Move::On(open_rule(words, at, form, ats, lefts))
+    Move::On(open_rule(words, at, form, stack))
 }
 
 // Opens the next symbol, which is no token, or goes back to the innermost right side that waits. With nothing left, all numbers
@@ -68,22 +67,21 @@ fn step(
     rules: usize,
     list: &[u16],
     form: Open,
-    ats: &mut [u16],
-    lefts: &mut [u16],
+    stack: &mut [u16],
 ) -> Move
-    requires { ⌜ Ground (now words) (now starts) (now list) rules × Kept (now words) (now list) (now ats) (now lefts) form ⌝ }
-    ensures { λ r. ⌜ Bounded (now (words .entry)) (now (list .entry)) (now (ats .entry)) (now (lefts .entry)) form r
-        (now (ats .exit)) (now (lefts .exit)) ⌝ }
+    requires { ⌜ Ground (now words) (now starts) (now list) rules × Kept (now words) (now list) (now stack) form ⌝ }
+    ensures { λ r. ⌜ Bounded (now (words .entry)) (now (list .entry)) (now (stack .entry)) form r
+        (now (stack .exit)) ⌝ }
     ensures { λ r. ⌜ ((g : Grammar) (n : ℕ) → View (now (words .entry)) (now (starts .entry)) n rules g →
         (0 < form .left → getD (now (words .entry)) (form .at) 0 < n) →
-        Turned g (now (words .entry)) (now (list .entry)) (now (ats .entry)) (now (lefts .entry)) form r
-        (now (ats .exit)) (now (lefts .exit))) ⌝ }
+        Turned g (now (words .entry)) (now (list .entry)) (now (stack .entry)) form r
+        (now (stack .exit))) ⌝ }
 {
     if 0 < form.left {
-        return expand(words, starts, rules, list, form, ats, lefts);
+        return expand(words, starts, rules, list, form, stack);
     }
     if 0 < form.depth {
-        return Move::On(above(form, ats, lefts));
+        return Move::On(above(form, stack));
     }
     if form.next < list.len() {
         return Move::Stop { place: form.next };
@@ -100,12 +98,11 @@ pub fn run(
     n: usize,
     rules: usize,
     list: &[u16],
-    ats: &mut [u16],
-    lefts: &mut [u16],
+    stack: &mut [u16],
     sentence: &mut [u16],
 ) -> Outcome
     requires { ⌜ Ground (now words) (now starts) (now list) rules × ((3 ≤ length (now words)) ×
-        ((length (now list) ≤ length (now ats)) × (length (now list) ≤ length (now lefts)))) ⌝ }
+        (2 * length (now list) ≤ length (now stack))) ⌝ }
     ensures { λ r. ⌜ ((g : Grammar) → View (now (words .entry)) (now (starts .entry)) n rules g →
         Ran g (now (list .entry)) (now (sentence .entry)) r (now (sentence .exit))) ⌝ }
 {
@@ -118,7 +115,7 @@ pub fn run(
     };
     loop {
         form = pass_tokens(words, n, form, sentence);
-        match step(words, starts, rules, list, form, ats, lefts) {
+        match step(words, starts, rules, list, form, stack) {
             Move::On(more) => {
                 form = more;
             }

@@ -1,7 +1,7 @@
 // What is left of a form while it is opened from the left: of the right side that is read, where the next symbol is and how many
-// are left; the rests of others wait on a stack, and a rest of nothing does not wait. Which rule opens a symbol is `derivation`'s.
+// are left; the rests of others wait on a stack, two words each, and a rest of nothing does not wait. Which rule opens a symbol is `derivation`'s.
 ghost use mathlib.Core.Path.{_≡_};
-ghost use Prim.Native.Nat.{_+_, _-_, _≤_, _<_};
+ghost use Prim.Native.Nat.{_+_, _*_, _-_, _≤_, _<_};
 ghost use lib.ListN.{length};
 ghost use lib.Seq.{sets};
 ghost use Rattle.replay.specs.Forms.{side, waitingAbove, TokensEnd, Passing, Passed, Openable, Opened};
@@ -113,14 +113,14 @@ pub fn pass_tokens(words: &[u16], n: usize, form: Open, sentence: &mut [u16]) ->
 }
 
 // The innermost right side that waits.
-pub fn above(form: Open, ats: &[u16], lefts: &[u16]) -> Open
-    requires { ⌜ (0 < form .depth) × ((form .depth ≤ length (now ats)) × (form .depth ≤ length (now lefts))) ⌝ }
-    ensures { λ r. ⌜ r ≡ waitingAbove (now (ats .entry)) (now (lefts .entry)) form ⌝ }
+pub fn above(form: Open, stack: &[u16]) -> Open
+    requires { ⌜ (0 < form .depth) × (2 * form .depth ≤ length (now stack)) ⌝ }
+    ensures { λ r. ⌜ r ≡ waitingAbove (now (stack .entry)) form ⌝ }
 {
     let depth = form.depth - 1;
     Open {
-        at: wide(ats[depth]),
-        left: wide(lefts[depth]),
+        at: wide(stack[2 * depth]),
+        left: wide(stack[2 * depth + 1]),
         depth,
         next: form.next,
         tokens: form.tokens,
@@ -128,10 +128,10 @@ pub fn above(form: Open, ats: &[u16], lefts: &[u16]) -> Open
 }
 
 // Opens the next symbol by the rule at an index. What is left behind the symbol waits, if anything is.
-pub fn open_rule(words: &[u16], at: usize, form: Open, ats: &mut [u16], lefts: &mut [u16]) -> Open
-    requires { ⌜ Openable (now words) at (now ats) (now lefts) form ⌝ }
-    ensures { λ r. ⌜ Opened (now (words .entry)) at (now (ats .entry)) (now (lefts .entry)) form
-        (now (ats .exit)) (now (lefts .exit)) r ⌝ }
+pub fn open_rule(words: &[u16], at: usize, form: Open, stack: &mut [u16]) -> Open
+    requires { ⌜ Openable (now words) at (now stack) form ⌝ }
+    ensures { λ r. ⌜ Opened (now (words .entry)) at (now (stack .entry)) form
+        (now (stack .exit)) r ⌝ }
 {
     let first = at + 2;
     let left = wide(words[at + 1]);
@@ -146,8 +146,8 @@ pub fn open_rule(words: &[u16], at: usize, form: Open, ats: &mut [u16], lefts: &
         };
     }
     let depth = form.depth;
-    ats[depth] = narrow(form.at + 1);
-    lefts[depth] = narrow(form.left - 1);
+    stack[2 * depth] = narrow(form.at + 1);
+    stack[2 * depth + 1] = narrow(form.left - 1);
     Open {
         at: first,
         left,

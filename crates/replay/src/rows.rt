@@ -1,7 +1,7 @@
 // What `replay` answers of a grammar and a list: 12, 11, 3, or the sentence. Tokens are kept aside until no refusal can come, and
 // how much room is cleared for that, and for the stack, goes by the list's length.
 ghost use mathlib.Core.Path.{_≡_};
-ghost use Prim.Native.Nat.{_≤_};
+ghost use Prim.Native.Nat.{_*_, _≤_};
 ghost use lib.ListN.{length, take};
 ghost use Rattle.answers.specs.Buffers.{over};
 ghost use Rattle.grammar.specs.Words.{Grammar};
@@ -58,8 +58,7 @@ fn of_few(
     requires { ⌜ ((g : Grammar) × View (now words) (now starts) n rules g) × (length (now list) ≤ 64) ⌝ }
     ensures { λ r. ⌜ Replay (now (words .entry)) (now (list .entry)) (now (sentence .entry)) r (now (sentence .exit)) ⌝ }
 {
-    let mut ats = [0u16; FEW_NUMBERS];
-    let mut lefts = [0u16; FEW_NUMBERS];
+    let mut stack = [0u16; 2 * FEW_NUMBERS];
     let mut aside = [0u16; 64];
     of_list(
         words,
@@ -67,8 +66,7 @@ fn of_few(
         n,
         rules,
         list,
-        &mut ats,
-        &mut lefts,
+        &mut stack,
         &mut aside,
         sentence,
     )
@@ -86,8 +84,7 @@ fn of_some(
     requires { ⌜ ((g : Grammar) × View (now words) (now starts) n rules g) × (length (now list) ≤ 256) ⌝ }
     ensures { λ r. ⌜ Replay (now (words .entry)) (now (list .entry)) (now (sentence .entry)) r (now (sentence .exit)) ⌝ }
 {
-    let mut ats = [0u16; SOME_NUMBERS];
-    let mut lefts = [0u16; SOME_NUMBERS];
+    let mut stack = [0u16; 2 * SOME_NUMBERS];
     let mut aside = [0u16; MOST_NUMBERS];
     of_list(
         words,
@@ -95,8 +92,7 @@ fn of_some(
         n,
         rules,
         list,
-        &mut ats,
-        &mut lefts,
+        &mut stack,
         &mut aside,
         sentence,
     )
@@ -114,8 +110,7 @@ fn of_many(
     requires { ⌜ ((g : Grammar) × View (now words) (now starts) n rules g) × (length (now list) ≤ 4096) ⌝ }
     ensures { λ r. ⌜ Replay (now (words .entry)) (now (list .entry)) (now (sentence .entry)) r (now (sentence .exit)) ⌝ }
 {
-    let mut ats = [0u16; MOST_NUMBERS];
-    let mut lefts = [0u16; MOST_NUMBERS];
+    let mut stack = [0u16; 2 * MOST_NUMBERS];
     let mut aside = [0u16; MOST_NUMBERS];
     of_list(
         words,
@@ -123,8 +118,7 @@ fn of_many(
         n,
         rules,
         list,
-        &mut ats,
-        &mut lefts,
+        &mut stack,
         &mut aside,
         sentence,
     )
@@ -138,16 +132,15 @@ fn of_list(
     n: usize,
     rules: usize,
     list: &[u16],
-    ats: &mut [u16],
-    lefts: &mut [u16],
+    stack: &mut [u16],
     aside: &mut [u16],
     sentence: &mut [u16],
 ) -> ReplayAnswer
     requires { ⌜ ((g : Grammar) × View (now words) (now starts) n rules g) × ((length (now list) ≤ 4096) ×
-        ((length (now list) ≤ length (now ats)) × (length (now list) ≤ length (now lefts)))) ⌝ }
+        (2 * length (now list) ≤ length (now stack))) ⌝ }
     ensures { λ r. ⌜ Replay (now (words .entry)) (now (list .entry)) (now (sentence .entry)) r (now (sentence .exit)) ⌝ }
 {
-    match run(words, starts, n, rules, list, ats, lefts, aside) {
+    match run(words, starts, n, rules, list, stack, aside) {
         Outcome::Stopped { place } => ReplayAnswer::Refused {
             number: answers::NO_DERIVATION,
             place,
@@ -163,7 +156,7 @@ fn of_list(
                 copy_front(aside, tokens, sentence);
                 return ReplayAnswer::Done(tokens);
             }
-            run(words, starts, n, rules, list, ats, lefts, sentence);
+            run(words, starts, n, rules, list, stack, sentence);
             ReplayAnswer::Done(tokens)
         }
     }

@@ -10,7 +10,7 @@ use Rattle.replay.proofs.derivation.expand.Tie as tie
 
 returns : tie.Need-returns
 returns c =
-    let p = c .before .before .before .before .before .pre in
+    let p = c .before .before .before .before .pre in
     (tt, λ g n view below. none-left (p .1 .1) (p .0) view below (omega arith))
 
 mul-wide : tie.Need-mul-wide
@@ -24,7 +24,7 @@ wide-requires c κs = search needs
 
 returns-2 : tie.Need-returns-2
 returns-2 c =
-    let start = c .before .before .before .before .before .before .before .before in
+    let start = c .before .before .before .before .before .before .before in
     let p = start .pre in
     let more : start .args .form .next < length (start .args .list .now) = omega (arith, c .before .before .before .if1 .left) in
     (tt, λ g n view below. no-rule (p .1 .1) (p .0) view below (c .before .wide .ensures) more (omega arith))
@@ -36,7 +36,7 @@ mul-if3 : tie.Need-mul-if3
 mul-if3 c =
     let found = c in
     let read = found .before .before in
-    let start = read .before .before .before .before .before .before .before in
+    let start = read .before .before .before .before .before .before in
     let ground = start .pre .1 .0 in
     let k = read .wide .result in
     let l : k < start .args .rules = omega (arith, found .before .if2 .left) in
@@ -47,7 +47,7 @@ shared-slice-read-if3 : tie.Need-shared-slice-read-if3
 shared-slice-read-if3 c =
     let found = c .before in
     let read = found .before .before in
-    let start = read .before .before .before .before .before .before .before in
+    let start = read .before .before .before .before .before .before in
     let ground = start .pre .1 .0 in
     let k = read .wide .result in
     let l : k < start .args .rules = omega (arith, found .before .if2 .left) in
@@ -64,7 +64,7 @@ returns-3 : tie.Need-returns-3
 returns-3 c =
     let found = c .before .before .before in
     let read = found .before .before in
-    let start = read .before .before .before .before .before .before .before in
+    let start = read .before .before .before .before .before .before in
     let p = start .pre in
     let k = read .wide .result in
     let l : k < start .args .rules = omega (arith, found .before .if2 .left) in
@@ -75,9 +75,9 @@ returns-3 c =
 
 open-rule-requires : tie.Need-open-rule-requires
 open-rule-requires c κs =
-    let found = c .before .before .before .before .before in
+    let found = c .before .before .before .before in
     let read = found .before .before in
-    let start = read .before .before .before .before .before .before .before in
+    let start = read .before .before .before .before .before .before in
     let p = start .pre in
     let k = read .wide .result in
     let l : k < start .args .rules = omega (arith, found .before .if2 .left) in
@@ -88,16 +88,13 @@ open-rule-requires c κs =
 same-length : tie.Need-same-length
 same-length c = search needs
 
-same-length-2 : tie.Need-same-length-2
-same-length-2 c = search needs
-
 returns-4 : tie.Need-returns-4
 returns-4 c =
-    let at-open-rule = c .before .before .before .before in
-    let same-left = at-open-rule .before .before .before in
+    let at-open-rule = c .before .before in
+    let same-left = at-open-rule .before .before in
     let found = same-left .before .before .before in
     let read = found .before .before in
-    let start = read .before .before .before .before .before .before .before in
+    let start = read .before .before .before .before .before .before in
     let p = start .pre in
     let ground = p .1 .0 in
     let kept = p .1 .1 in
@@ -107,7 +104,7 @@ returns-4 c =
     let at = found .index .ensures .0 (omega (arith, ground .few-rules)) in
     let same = rw at at (same-left .if3 .left) in
     let opened = rw at at (at-open-rule .open-rule .ensures) in (
-      opens-bounded kept (p .0) ground k l more opened (search needs) (search needs),
+      opens-bounded kept (p .0) ground k l more opened (search needs),
       λ g n view below. opens kept (p .0) view below (read .wide .ensures) more l same opened,
     )
 
@@ -128,5 +125,4 @@ expand-spec =
     returns-3
     open-rule-requires
     same-length
-    same-length-2
     returns-4)

@@ -13,27 +13,26 @@ use Rattle.replay.proofs.derivation.run.Statement.{statement}
 use Rattle.replay.proofs.derivation.run.Tie as tie
 
 abbrev Inv-loop : tie.InvT-loop
-Inv-loop words starts n rules list ats₀ lefts₀ sentence₀ form₀ ats lefts sentence form =
-    Kept words list ats lefts form × (length ats ≡ length ats₀) × (length lefts ≡ length lefts₀) ×
-    (length sentence ≡ length sentence₀) ×
-    ((g : Grammar) → View words starts n rules g → Held g words list ats lefts form sentence₀ sentence)
+Inv-loop words starts n rules list stack₀ sentence₀ form₀ stack sentence form =
+    Kept words list stack form × (length stack ≡ length stack₀) × (length sentence ≡ length sentence₀) ×
+    ((g : Grammar) → View words starts n rules g → Held g words list stack form sentence₀ sentence)
 
 abbrev μ-loop : tie.MeasureT-loop
-μ-loop words starts n rules list ats₀ lefts₀ sentence₀ form₀ ats lefts sentence form = toDo words list ats lefts form
+μ-loop words starts n rules list stack₀ sentence₀ form₀ stack sentence form = toDo words list stack form
 
 loop-holds : tie.Need-loop-holds Inv-loop μ-loop
 loop-holds c =
-    let p = c .before .before .before .before .before .pre in
-    (kept-start (p .1 .0) (p .1 .1 .0) (p .1 .1 .1), refl, refl, refl, λ g view. held-start g view _ _ _ _)
+    let p = c .before .before .before .before .pre in
+    (kept-start (p .1 .0) (p .1 .1), refl, refl, λ g view. held-start g view _ _ _)
 
 pass-tokens-requires : tie.Need-pass-tokens-requires Inv-loop μ-loop
 pass-tokens-requires c κs = search needs
 
 step-requires : tie.Need-step-requires Inv-loop μ-loop
 step-requires c κs =
-    let past = c .before .before .before .before in
+    let past = c .before .before .before in
     let at-loop = past .before .before in
-    let start = at-loop .before .before .before .before .before .before in
+    let start = at-loop .before .before .before .before .before in
     (start .pre .0, passes-kept (at-loop .loop .inv .0) (past .pass-tokens .ensures))
 
 enum-known-more : tie.Need-enum-known-more Inv-loop μ-loop
@@ -41,15 +40,15 @@ enum-known-more c = search needs
 
 loop-less : tie.Need-loop-less Inv-loop μ-loop
 loop-less c =
-    let stepped = c .before .before .before .before .before .before .before in
-    let past = stepped .before .before .before .before .before in
+    let stepped = c .before .before .before .before .before in
+    let past = stepped .before .before .before .before in
     let less = onward _ (c .before .more .given .1) (stepped .step .ensures .0) .less in
     omega (arith, less, passes-no-more (past .before .before .loop .inv .0) (past .pass-tokens .ensures))
 
 loop-again : tie.Need-loop-again Inv-loop μ-loop
 loop-again c =
-    let stepped = c .before .before .before .before .before .before .before in
-    let past = stepped .before .before .before .before .before in
+    let stepped = c .before .before .before .before .before in
+    let past = stepped .before .before .before .before in
     let inv = past .before .before .loop .inv in
     let p = past .pass-tokens .ensures in
     let z = stepped .step .ensures in
@@ -57,8 +56,7 @@ loop-again c =
       onward _ e (z .0) .kept,
       search needs,
       search needs,
-      search needs,
-      λ g view. held-on (held-passed (inv .4 g view) (inv .0) view p) _ _ _ (z .1 g _ view (p .stops)) e,
+      λ g view. held-on (held-passed (inv .3 g view) (inv .0) view p) _ _ (z .1 g _ view (p .stops)) e,
     )
 
 enum-known-tokens : tie.Need-enum-known-tokens Inv-loop μ-loop
@@ -70,40 +68,34 @@ same-length c = search needs
 same-length-2 : tie.Need-same-length-2 Inv-loop μ-loop
 same-length-2 c = search needs
 
-same-length-3 : tie.Need-same-length-3 Inv-loop μ-loop
-same-length-3 c = search needs
-
 returns : tie.Need-returns Inv-loop μ-loop
 returns c =
-    let stepped = c .before .before .before .before .before .before .before in
-    let past = stepped .before .before .before .before .before in
+    let stepped = c .before .before .before .before .before in
+    let past = stepped .before .before .before .before in
     let inv = past .before .before .loop .inv in
     let p = past .pass-tokens .ensures in
     let turned = stepped .step .ensures .1 in
     let e = c .before .tokens .given .1 in
-    λ g view. record { ended = held-end (held-passed (inv .4 g view) (inv .0) view p) _ _ _ (turned g _ view (p .stops)) e }
+    λ g view. record { ended = held-end (held-passed (inv .3 g view) (inv .0) view p) _ _ (turned g _ view (p .stops)) e }
 
 enum-known-place : tie.Need-enum-known-place Inv-loop μ-loop
 enum-known-place c = search needs
 
+same-length-3 : tie.Need-same-length-3 Inv-loop μ-loop
+same-length-3 c = search needs
+
 same-length-4 : tie.Need-same-length-4 Inv-loop μ-loop
 same-length-4 c = search needs
 
-same-length-5 : tie.Need-same-length-5 Inv-loop μ-loop
-same-length-5 c = search needs
-
-same-length-6 : tie.Need-same-length-6 Inv-loop μ-loop
-same-length-6 c = search needs
-
 returns-2 : tie.Need-returns-2 Inv-loop μ-loop
 returns-2 c =
-    let stepped = c .before .before .before .before .before .before .before in
-    let past = stepped .before .before .before .before .before in
+    let stepped = c .before .before .before .before .before in
+    let past = stepped .before .before .before .before in
     let inv = past .before .before .loop .inv in
     let p = past .pass-tokens .ensures in
     let turned = stepped .step .ensures .1 in
     let e = c .before .place .given .1 in
-    λ g view. record { ended = held-stop (held-passed (inv .4 g view) (inv .0) view p) _ _ _ (turned g _ view (p .stops)) e }
+    λ g view. record { ended = held-stop (held-passed (inv .3 g view) (inv .0) view p) _ _ (turned g _ view (p .stops)) e }
 
 pub run-spec : {M : Type 1} → statement M
 run-spec =
@@ -120,10 +112,8 @@ run-spec =
     enum-known-tokens
     same-length
     same-length-2
-    same-length-3
     returns
     enum-known-place
+    same-length-3
     same-length-4
-    same-length-5
-    same-length-6
     returns-2)

@@ -13,42 +13,36 @@ expand-requires c κs = search needs
 same-length : tie.Need-same-length
 same-length c = search needs
 
-same-length-2 : tie.Need-same-length-2
-same-length-2 c = search needs
-
 returns : tie.Need-returns
 returns c =
-    let opened = c .before .before .before .before in
+    let opened = c .before .before in
     let e = opened .expand .ensures in
-    let some = opened .before .before .before .if1 .taken in
+    let some = opened .before .before .if1 .taken in
     (e .0, λ g n view below. e .1 g n view (below (omega (arith, some))))
 
 above-requires : tie.Need-above-requires
 above-requires c κs = search needs
 
-same-length-3 : tie.Need-same-length-3
-same-length-3 c = search needs
-
-same-length-4 : tie.Need-same-length-4
-same-length-4 c = search needs
+same-length-2 : tie.Need-same-length-2
+same-length-2 c = search needs
 
 returns-2 : tie.Need-returns-2
 returns-2 c =
-    let kept = c .before .before .before .before .before .before .before .before .before .before .before .pre .1 in
-    let form = c .before .before .before .before .before .before .before .before .before .before .before .args .form in
-    let none : form .left ≡ 0 = omega (arith, c .before .before .before .before .before .if1 .left) in
-    let some : 0 < form .depth = omega (arith, c .before .before .before .if2 .taken) in
+    let kept = c .before .before .before .before .before .before .before .before .before .pre .1 in
+    let form = c .before .before .before .before .before .before .before .before .before .args .form in
+    let none : form .left ≡ 0 = omega (arith, c .before .before .before .before .if1 .left) in
+    let some : 0 < form .depth = omega (arith, c .before .before .if2 .taken) in
     let e = c .above .ensures in
     (went-back kept none some e, λ g n view below. goes-back kept none some e g)
 
 returns-3 : tie.Need-returns-3
 returns-3 c =
-    let kept = c .before .before .before .before .before .before .before .before .before .before .pre .1 in
+    let kept = c .before .before .before .before .before .before .before .before .before .pre .1 in
     (tt, λ g n view below. nothing-stops kept g (omega arith) (omega arith) (omega arith))
 
 returns-4 : tie.Need-returns-4
 returns-4 c =
-    let kept = c .before .before .before .before .before .before .before .before .before .before .pre .1 in
+    let kept = c .before .before .before .before .before .before .before .before .before .pre .1 in
     (tt, λ g n view below. (refl, nothing-ends kept g (omega arith) (omega arith) (omega arith)))
 
 pub step-spec : {M : Type 1} → statement M
@@ -57,11 +51,9 @@ step-spec =
     (tie.spec
     expand-requires
     same-length
-    same-length-2
     returns
     above-requires
-    same-length-3
-    same-length-4
+    same-length-2
     returns-2
     returns-3
     returns-4)
