@@ -5,10 +5,9 @@ use mathlib.Core.List.{List, [], _++_}
 use Prim.Native.Nat.{ℕ, _+_, _-_, _≤_, _<_}
 use native.Mathlib.Omega.{arith}
 use lib.ListN.{length, getD, drop, length-append}
-use Rattle.grammar.specs.Words.{Grammar, RuleAt}
+use Rattle.grammar.specs.Words.{Grammar, RuleAt, placeOf}
 use Rattle.grammar.specs.Walk.{countAt}
 use Rattle.grammar.proofs.RulePlaces as places
-use Rattle.grammar.proofs.RulePlaces.{placeOf}
 use Rattle.grammar.proofs.RuleNumbers.{rule-number}
 use Rattle.grammar.proofs.Replay.{derived, stopped, replayed}
 use Rattle.grammar.proofs.RulesInView.{View, viewed-rule, viewed-left}

@@ -18,8 +18,10 @@ pub enum ReplayAnswer {
 pub fn replay(words: &[u16], list: &[u16], sentence: &mut [u16]) -> ReplayAnswer
     ensures { λ r. ⌜ Replay (now (words .entry)) (now (list .entry)) (now (sentence .entry)) r (now (sentence .exit)) ⌝ }
 {
-    let mut starts = [0u16; 256];
-    match layout::read(words, &mut starts) {
+    let reading = layout::read(words);
+    let starts = reading.starts;
+    let answer = reading.answer;
+    match answer {
         LayoutAnswer::Fault { place } => ReplayAnswer::Refused {
             number: answers::BROKEN_LAYOUT,
             place,

@@ -8,21 +8,20 @@ use Rattle.replay.proofs.replay.Tie as tie
 read-requires : tie.Need-read-requires
 read-requires c κs = search needs
 
-enum-known-place : tie.Need-enum-known-place
-enum-known-place c = search needs
+enum-known-answer : tie.Need-enum-known-answer
+enum-known-answer c = search needs
 
-enum-known-nonterminals : tie.Need-enum-known-nonterminals
-enum-known-nonterminals c = search needs
+enum-known-answer-2 : tie.Need-enum-known-answer-2
+enum-known-answer-2 c = search needs
 
 of-grammar-requires : tie.Need-of-grammar-requires
 of-grammar-requires c κs =
-    let at-read = c .before .before .before .before .before in
-    let read = at-read .read in
-    let begun = begun-of _ _ (read .ensures .0) (read .ensures .1) (c .before .before .before .nonterminals .given .1) in
+    let read = c .before .before .before .before .before .before .read in
+    let begun = begun-of _ (read .ensures .0) (read .ensures .1) (c .before .before .before .answer2 .given .1) in
     (begun .grammar, begun .view)
 
 returns : tie.Need-returns
-returns c = row-4 (broken-of _ (c .before .before .before .read .ensures .0) (c .before .place .given .1))
+returns c = row-4 (broken-of _ (c .before .before .before .before .read .ensures .0) (c .before .answer .given .1))
 
 same-length : tie.Need-same-length
 same-length c = search needs
@@ -35,8 +34,8 @@ replay-spec =
     tie.close
     (tie.spec
     read-requires
-    enum-known-place
-    enum-known-nonterminals
+    enum-known-answer
+    enum-known-answer-2
     of-grammar-requires
     returns
     same-length
