@@ -14,7 +14,7 @@ use lib.ListN.{length, getElem?, getD, drop, drop-of-length-le}
 use lib.Seq.{drop-cons}
 use borrow.Author.Tests.{eqb-true, eq-eqb, lt-ltb, le-ltb}
 use Rattle.grammar.specs.Words.{Grammar, Rule, RuleAt, R}
-use Rattle.grammar.proofs.Replay.{Replayed, derived, stopped, replayed, stepped, complete?, before, where-true, ending}
+use Rattle.grammar.specs.Replaying.{Replayed, derived, stopped, replayed, stepped, complete?, before, where-true, ending}
 use Rattle.replay.specs.ReplaySteps.{front, allFront}
 
 -- no rule has a number from R on

@@ -14,7 +14,8 @@ use Rattle.grammar.specs.Derivation.{Start}
 use Rattle.grammar.proofs.LayoutExact.{layout-exact, in-bounds}
 use Rattle.grammar.proofs.WordsFew.{words-few}
 use Rattle.grammar.proofs.RulePlaces as places
-use Rattle.grammar.proofs.Replay.{stopped, replayed, replay, replay-exact, replay-stops}
+use Rattle.grammar.specs.Replaying.{stopped, replayed, replay}
+use Rattle.grammar.proofs.Replay.{replay-exact, replay-stops}
 use Rattle.grammar.proofs.RulesInView.{View, viewed-rule}
 use Rattle.replay.specs.Replay.{Replay, row-11, row-3, done}
 use Rattle.replay.specs.Forms.{side, waiting, formOf, Passed}

@@ -11,8 +11,8 @@ use Rattle.answers.specs.Refusals.{Refusal, broken-layout, long-list, no-deriva
 use Rattle.answers.specs.Buffers.{over}
 use Rattle.grammar.specs.Words.{Grammar, layout, reads}
 use Rattle.grammar.specs.Derivation.{Derives, StopsAt}
-use Rattle.grammar.proofs.Replay.{Replayed, derived, stopped, replay, replay-exact, replay-stops}
-use Rattle.grammar.proofs.Replay.{derives-unique, stops-unique, derives-or-stops}
+use Rattle.grammar.specs.Replaying.{Replayed, derived, stopped, replay}
+use Rattle.grammar.proofs.Replay.{replay-exact, replay-stops, derives-unique, stops-unique, derives-or-stops}
 use Rattle.answers.proofs.Gates.{Gate, stop, go, Settles, gate-settles}
 use Rattle.grammar.proofs.FirstRows.{OfWords, fault, grammar, words-settle}
 use Rattle.grammar.proofs.FirstRowsMet.{words-met}

@@ -9,7 +9,7 @@ use Rattle.grammar.specs.Words.{Grammar, RuleAt, placeOf}
 use Rattle.grammar.specs.Walk.{countAt}
 use Rattle.grammar.proofs.RulePlaces as places
 use Rattle.grammar.proofs.RuleNumbers.{rule-number}
-use Rattle.grammar.proofs.Replay.{derived, stopped, replayed}
+use Rattle.grammar.specs.Replaying.{derived, stopped, replayed}
 use Rattle.grammar.proofs.RulesInView.{View, viewed-rule, viewed-left}
 use Rattle.replay.specs.Forms.{side, formOf, waitingAbove, behind, Passed, Openable, Opened}
 use Rattle.replay.specs.ReplaySteps.{rest, allFront, toDo, Ground, Kept, Onward}

@@ -8,7 +8,7 @@ use lib.ListN.{length, getD, drop}
 use lib.Seq.{sets}
 use Rattle.grammar.specs.Words.{Grammar}
 use Rattle.grammar.specs.Walk.{countAt}
-use Rattle.grammar.proofs.Replay.{Replayed, derived, stopped, replayed, replay}
+use Rattle.grammar.specs.Replaying.{Replayed, derived, stopped, replayed, replay}
 use Rattle.replay.specs.Forms.{atOf, leftOf, formOf}
 use Rattle.replay.specs.declared.forms.Open.{Open}
 use Rattle.replay.specs.declared.derivation.Move.{Move}

@@ -5,10 +5,9 @@ use mathlib.Core.Path.{refl}
 use mathlib.Core.Logic.{inl, inr}
 use Rattle.packed.specs.File.{octetsOf, fileOf}
 use Rattle.grammar.specs.Words.{layout, lefts}
-use Rattle.grammar.proofs.Replay.{replay, replayed, stepped, complete?}
-use Rattle.grammar.proofs.Certificate.{symbolSize, wordSize}
-use Rattle.grammar.proofs.ContextCertificate.{othersSize}
-use Rattle.tables.proofs.ASampleOfTables.{no-tree-at-0, no-tree-at-1, unreached-at-1}
+use Rattle.grammar.specs.Replaying.{replay, replayed, stepped, complete?}
+use Rattle.grammar.specs.Certificates.{symbolSize, wordSize, othersSize}
+use Rattle.tables.proofs.Main.{no-tree-at-0, no-tree-at-1, unreached-at-1}
 use Rattle.samples.specs.Row.{Holds, Settled, All, no-more, _and_}
 use Rattle.samples.specs.Rows.{rows}
 use Rattle.samples.proofs.RowsTested.{Shown, all-hold}

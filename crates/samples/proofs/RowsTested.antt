@@ -1,7 +1,7 @@
 -- Rows, tested by computing: a table by the one pass over it, a fault of the layout by judging the words, a replay by replaying,
 -- a file by spelling its words. A row that passes holds. No test is made for 5 and 6, nor for a night: such rows do not pass.
 -- Assumes nothing.
-use Prim.Native.Nat.{ℕ, _≤_}
+use Prim.Native.Nat.{ℕ, _≤_, _<_}
 use native.Mathlib.Omega.{arith}
 use mathlib.Core.Path.{_≡_, refl}
 use mathlib.Core.Bool.{Bool, true, false, _&&_, So, and-eq-true-iff, false≢true}
@@ -14,13 +14,15 @@ use Rattle.packed.specs.File.{fileOf}
 use Rattle.packed.proofs.Main.{unpack-fileOf}
 use Rattle.grammar.specs.Words.{Grammar, R, Judged, reads, faults, layout}
 use Rattle.grammar.specs.Refusals.{Accepted}
-use Rattle.grammar.proofs.Dead.{open-reached}
-use Rattle.grammar.proofs.FigureTest.{each, each-at}
-use Rattle.grammar.proofs.Main.{layout-exact, replay-exact, replay-stops}
-use Rattle.grammar.proofs.Replay.{Replayed, derived, stopped, replay}
+use Rattle.grammar.specs.Tree.{Tree, plug, StandsIn}
+use Rattle.grammar.specs.FigureTests.{each}
+use Rattle.grammar.specs.Replaying.{Replayed, derived, stopped, replay}
+use Rattle.grammar.proofs.FigureTest.{each-at}
+use Rattle.grammar.proofs.Main.{layout-exact, dead, replay-exact, replay-stops}
 use Rattle.tables.specs.Table.{IsTable, totalEntry}
 use Rattle.tables.specs.Promise as tables
-use Rattle.tables.proofs.TableComputed.{passes?, computed-table}
+use Rattle.tables.specs.TableCertificates.{passes?}
+use Rattle.tables.proofs.Main.{computed-table}
 use Rattle.replay.specs.Replay as replayed
 use Rattle.samples.specs.Row.{Row, unpack-of, tables-of, replay-of, refusal-of, night-of, Result, writes, refuses}
 use Rattle.samples.specs.Row.{Holds, All, no-more, _and_}
@@ -75,15 +77,24 @@ row? (night-of words table hs) = false
 
 -- a grammar whose table has no total above 4,096 is accepted
 pub table-accepts : {g : Grammar} {table : List ℕ} → IsTable g table → So (totals-fit? g table) → Accepted g
-table-accepts {g} {table} is t = record {
-  trees = λ A lt. is .leasts A lt .tree;
-  reached = λ A lt. open-reached (is .contexts A lt .tree);
-  fit = λ r l. record {
-    total = totalEntry g table r;
-    is = is .totals r l;
-    within = leb-true _ 4096 (each-at (λ r. leb (totalEntry g table r) 4096) (R g) t r l);
-  };
-}
+table-accepts {g} {table} is t =
+    let (trees, reached) = dead g .1 stands in
+    record {
+      trees = trees;
+      reached = reached;
+      fit = λ r l. record {
+        total = totalEntry g table r;
+        is = is .totals r l;
+        within = leb-true _ 4096 (each-at (λ r. leb (totalEntry g table r) 4096) (R g) t r l);
+      };
+    }
+  where
+    -- a least tree in the place of a context's open leaf
+    stands : (A : ℕ) → A < g .N → (t : Tree g (g .start)) × StandsIn g A t
+    stands A lt =
+        let above = is .contexts A lt .tree in
+        let below = is .leasts A lt .tree in
+        (plug above below, record { above = above; below = below; whole = refl })
 
 table-sound : (words : List ℕ) (r : Result) (j : Judged Grammar) → layout words ≡ j → So (table? j r) → Holds (tables-of words r)
 table-sound words (writes table) (reads g) e t =

@@ -13,8 +13,7 @@ use Rattle.grammar.specs.Measure.{plain}
 use Rattle.grammar.specs.Least.{TreeOf}
 use Rattle.grammar.specs.Refusals.{Lowest, Accepted}
 use Rattle.grammar.proofs.Main.{tree-of-same}
-use Rattle.grammar.proofs.ASampleOfDerivations.{empty-rule}
-use Rattle.grammar.proofs.SampleFigures.{loop, loop-chosen}
+use Rattle.grammar.specs.Samples.{empty-rule, loop}
 use Rattle.tables.specs.Table.{IsTable, HasTable}
 use Rattle.tables.proofs.Main.{empty-has-table, loop-has-table}
 use Rattle.handout.specs.Next.{Unused, AllUsed, Marked, Wanted, next, finished}
@@ -126,7 +125,7 @@ loop-tree = record {
   above = root;
   follows = tt;
   under = under-0;
-  opens = ((loop-chosen, tt), tt);
+  opens = ((loop-has-table .chosen 0 (omega arith), tt), tt);
   whole = refl;
 }
 
