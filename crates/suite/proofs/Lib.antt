@@ -1,4 +1,5 @@
-pub mod AfterAnswer
-pub mod WholeLine
+pub mod LinesFit
+pub mod FirstLines
+pub mod MoreLines
 pub mod WholeText
 pub mod Statements

@@ -1,2 +1,5 @@
-pub mod Answered
 pub mod Text
+pub mod Pieces
+pub mod Answered
+pub mod Begun
+pub mod Filled

@@ -1,50 +1,52 @@
--- What the program prints, whole. Document 01: "The first line has N, T, R. Each next line has target, token count, tokens, rule
--- count, rule numbers. The last has the sentence count." The sentences are those of a night (crates/handout, specs/Night).
--- Assumes nothing.
-use Prim.Native.Nat.{ℕ, _<_, _≤_}
+-- The text that the program is to print for a file. Document 01: "The first line has N, T, R. Each next line has target, token
+-- count, tokens, rule count, rule numbers. The last has the sentence count. A refused file prints the one line `refused`, number,
+-- place". The refusals are those of `unpack` and `tables` into buffers with room for all that they can write, so that none is for
+-- room; the sentences are those of a night that is over (crates/handout, specs/Night). Assumes nothing.
+use Prim.Native.Nat.{ℕ, _≤_}
 use mathlib.Core.Path.{_≡_}
-use mathlib.Core.Bool.{true, false}
 use mathlib.Core.List.{List, [], _∷_, _++_}
-use lib.ListN.{length, take, getD}
-use Rattle.grammar.specs.Words.{Grammar, R}
-use Rattle.handout.specs.Next.{Lent}
-use Rattle.handout.specs.Night.{Handout, handout}
-use Rattle.lines.specs.Lines.{suiteLine, sentenceLine, endLine}
-use Rattle.suite.specs.declared.Printed.{Printed}
-use Rattle.suite.specs.Answered.{mostLine, Ready, room-left, made-room, Answered}
+use lib.ListN.{length}
+use Rattle.packed.specs.File.{wordsIn}
+use Rattle.packed.specs.Promise.{NotVersionOne, BadLength, Unpacked}
+use Rattle.packed.specs.declared.FileAnswer.the-variants as file-answer
+use Rattle.grammar.specs.Words.{Grammar, R, layout, reads}
+use Rattle.grammar.specs.Refusals.{Accepted}
+use Rattle.tables.specs.Table.{HasTable}
+use Rattle.tables.specs.Promise.{Tables}
+use Rattle.tables.specs.declared.TableAnswer.the-variants as table-answer
+use Rattle.handout.specs.Night.{Handout, handout, Over}
+use Rattle.lines.specs.Lines.{suiteLine, sentenceLine, endLine, refusedLine}
 
 -- the lines of a night's handouts, of which the last stands first
 unfoldable pub sentenceLines : List Handout → List ℕ
 sentenceLines [] = []
 sentenceLines (handout r t ks ∷ hs) = sentenceLines hs ++ sentenceLine r t ks
 
+-- the first line, a line for each handout, the last line
+abbrev pub firstLine : Grammar → List ℕ
+firstLine g = suiteLine (g .N) (g .T) (R g)
+
 unfoldable pub suiteText : Grammar → List Handout → List ℕ
-suiteText g hs = suiteLine (g .N) (g .T) (R g) ++ sentenceLines hs ++ endLine (length hs)
+suiteText g hs = firstLine g ++ sentenceLines hs ++ endLine (length hs)
 
--- what is written where room is made: what waited
-abbrev pub writtenOut : {room : ℕ} {so ready : Printed} → Ready room so ready → List ℕ → List ℕ
-writtenOut (room-left h) text = []
-writtenOut {so = so} (made-room over h) text = take (so .waiting) text
+-- neither 1 nor 2 is given, and these are the words of the file
+pub record Unpacks (file words : List ℕ) : Type 0 where
+  pub version : ¬ NotVersionOne file
+  pub long : ¬ BadLength file
+  pub are : words ≡ wordsIn file
 
--- a 16-bit word wherever one looks
-abbrev pub Words16 : List ℕ → Type 0
-Words16 l = (i : ℕ) → getD l i 0 < 65536
+-- the words of the file are an accepted grammar, and this is its table
+pub record Accepts (file words table : List ℕ) (g : Grammar) : Type 0 where
+  pub unpacks : Unpacks file words
+  pub grammar : layout words ≡ reads g
+  pub accepted : Accepted g
+  pub tabled : HasTable g table
 
--- the program's buffers: a mark for each rule, room for 4,096 words in each of the other two, room for the longest line in the text
-pub record Large (g : Grammar) (before after : Lent) (text : List ℕ) : Type 0 where
-  pub marks : R g ≤ length (before .marks)
-  pub tokens : 4096 ≤ length (before .tokens)
-  pub rules : 4096 ≤ length (before .rules)
-  pub tokens-are-words : Words16 (after .tokens)
-  pub rules-are-words : Words16 (after .rules)
-  pub text-long : mostLine ≤ length text
-
--- The program's turns, where no write fails: what was written so far, the buffers, the text with what waits in it. It begins with
--- clear marks and the first line, and goes on while it is not over.
-pub data Turns (words table : List ℕ) (g : Grammar) : List ℕ → Lent → List ℕ → Printed → Type 0 where
-  begun : {lent : Lent} {text : List ℕ} {so : Printed} → ((i : ℕ) → getD (lent .marks) i 0 ≡ 0) → so .count ≡ 0 →
-      so .over ≡ false → take (so .waiting) text ≡ suiteLine (g .N) (g .T) (R g) → Turns words table g [] lent text so
-  turn : {before after : Lent} {written text text′ : List ℕ} {so ready then : Printed} →
-      Turns words table g written before text so → so .over ≡ false → (is : Ready (length text) so ready) →
-      ready .over ≡ false → Answered words table before after text text′ ready then → Large g before after text →
-      Turns words table g (written ++ writtenOut is text) after text′ then
+-- THE TEXT of a file. A file has at most 8,707 words, a table at most 896.
+pub data Text (file : List ℕ) : List ℕ → Type 0 where
+  refused-file : {before after : List ℕ} {number place : ℕ} → 8707 ≤ length before →
+      Unpacked file before (file-answer.Refused number place) after → Text file (refusedLine number place)
+  refused-words : {words before after : List ℕ} {number place : ℕ} → Unpacks file words → 896 ≤ length before →
+      Tables words before (table-answer.Refused number place) after → Text file (refusedLine number place)
+  suite : {words table : List ℕ} {g : Grammar} {hs : List Handout} → Accepts file words table g → Over words table hs →
+      Text file (suiteText g hs)

@@ -1,11 +1,17 @@
 // The suite program: a packed grammar file from standard input, and on standard output a line for each sentence that
 // `handout::next` hands out from clear marks, until every rule has been used; a refused file gives one line. What a line is stands
-// in crates/lines, and what is in it is settled by the calls. Lines are gathered, and written where the next one might not fit. A
-// read that fails is the end of the input; after a write that fails nothing more is written.
+// in crates/lines. The text comes in pieces, each of as many lines as surely fit: `first_piece` and then `next_piece` fill a buffer
+// and say how much of it is to be written, and that the pieces joined are the document's text of the input is proved (`whole-text`).
+// Only `print_pieces` writes. A read that fails is the end of the input; after a write that fails nothing more is written.
 ghost use Prim.Native.Nat.{_≤_};
+ghost use mathlib.Core.Path.{_≡_};
+ghost use mathlib.Core.Bool.{false};
 ghost use lib.ListN.{length};
 ghost use Rattle.handout.specs.Next.{Lent};
-ghost use Rattle.suite.specs.Answered.{mostLine, Ready, Answered, PrintedNext};
+ghost use Rattle.suite.specs.Answered.{Answered};
+ghost use Rattle.suite.specs.Begun.{OneLine, FirstLine, OfWords, Begun};
+ghost use Rattle.suite.specs.Filled.{Waits, Filled};
+ghost use Rattle.suite.specs.Pieces.{mostLine, Clear, Large, FirstPiece, Reached, NextPiece};
 use grammar::layout;
 use grammar::layout::LayoutAnswer;
 use handout::NextAnswer;
@@ -28,10 +34,12 @@ const MOST_NUMBERS: usize = 4096;
 // The most octets of a line (`sentence-few` of crates/lines).
 const MOST_LINE: usize = 24594;
 
-// How far the printing is: how many sentences there were, how many octets of the text wait to be written, and whether it is over.
-struct Printed {
+// How far the text is: how many words the grammar has, how many sentences there were, how many octets of the buffer are the piece,
+// and whether it is the last.
+struct Piece {
+    words: usize,
     count: usize,
-    waiting: usize,
+    length: usize,
     over: bool,
 }
 
@@ -39,101 +47,131 @@ fn main() {
     let mut file = [0u8; MOST_READ];
     let length = io::read_full(libc::STDIN_FILENO, &mut file);
     let mut text = io::large_buffer();
-    of_file(&file[..length], &mut text);
+    print_pieces(&file[..length], &mut text);
 }
 
-fn of_file(file: &[u8], text: &mut [u8])
+// Calls for the pieces, one after the other, and writes each.
+fn print_pieces(file: &[u8], text: &mut [u8])
     requires { ⌜ mostLine ≤ length (now text) ⌝ }
 {
     let mut words = [0u16; MOST_WORDS];
-    match packed::unpack(file, &mut words) {
-        FileAnswer::Done(count) => of_words(&words[..count], text),
-        FileAnswer::Refused { number, place } => print_refused(number, place, text),
-    }
-}
-
-fn of_words(words: &[u16], text: &mut [u8])
-    requires { ⌜ mostLine ≤ length (now text) ⌝ }
-{
     let mut table = [0u16; MOST_TABLE];
-    match tables::tables(words, &mut table) {
-        TableAnswer::Done(_) => of_table(words, &table, text),
-        TableAnswer::Refused { number, place } => print_refused(number, place, text),
-    }
-}
-
-fn of_table(words: &[u16], table: &[u16], text: &mut [u8])
-    requires { ⌜ mostLine ≤ length (now text) ⌝ }
-{
-    match layout::judge(words) {
-        LayoutAnswer::Grammar {
-            nonterminals,
-            terminals,
-            start: _,
-            rules,
-        } => {
-            let waiting = lines::suite(nonterminals, terminals, rules, text, 0);
-            print_sentences(words, table, text, waiting);
-        }
-        LayoutAnswer::Fault { place } => print_refused(answers::BROKEN_LAYOUT, place, text),
-    }
-}
-
-// The one line of a refused file.
-fn print_refused(number: u16, place: usize, text: &mut [u8]) {
-    let length = lines::refused(number, place, text, 0);
-    print(text, length);
-}
-
-// Hands out until it is over: at most one sentence for each rule (`at-most-R` of crates/handout), and then the end.
-fn print_sentences(words: &[u16], table: &[u16], text: &mut [u8], waiting: usize)
-    requires { ⌜ (waiting ≤ length (now text)) × (mostLine ≤ length (now text)) ⌝ }
-{
     let mut marks = [0u8; MOST_RULES];
     let mut sentence = [0u16; MOST_NUMBERS];
     let mut derivation = [0u16; MOST_NUMBERS];
-    let mut so = Printed {
-        count: 0,
-        waiting,
-        over: false,
-    };
-    let mut turn: usize = 0;
-    while turn <= MOST_RULES && !so.over {
-        so = print_next(
-            words,
-            table,
+    let mut so = first_piece(
+        file,
+        &mut words,
+        &mut table,
+        &mut marks,
+        &mut sentence,
+        &mut derivation,
+        text,
+    );
+    let mut is_written = print(text, so.length);
+    while is_written && !so.over {
+        so = next_piece(
+            &words,
+            &table,
             &mut marks,
             &mut sentence,
             &mut derivation,
             text,
             so,
         );
-        turn += 1;
+        is_written = print(text, so.length);
     }
-    print(text, so.waiting);
 }
 
-// The next line, once there is room for it; none after a write that failed.
-fn print_next(
+// Writes the first octets of the text, and answers whether that succeeded.
+fn print(text: &[u8], count: usize) -> bool
+    requires { ⌜ count ≤ length (now text) ⌝ }
+{
+    io::write_all(libc::STDOUT_FILENO, &text[..count])
+}
+
+// The first piece of a file's text, from clear marks: the line of a refused file, or the first line and what fits behind it.
+fn first_piece(
+    file: &[u8],
+    words: &mut [u16],
+    table: &mut [u16],
+    marks: &mut [u8],
+    sentence: &mut [u16],
+    derivation: &mut [u16],
+    text: &mut [u8],
+) -> Piece
+    requires { ⌜ (8707 ≤ length (now words)) × (896 ≤ length (now table)) ⌝ }
+    requires { ⌜ Large (now marks) (now sentence) (now derivation) (now text) ⌝ }
+    requires { ⌜ Clear (now marks) ⌝ }
+    ensures { λ r. ⌜ FirstPiece (now (file .entry)) (now (words .exit)) (now (table .exit)) (now (marks .exit))
+        (now (text .exit)) r ⌝ }
+{
+    let begun = begin(file, words, table, text);
+    let count = begun.words;
+    fill(
+        &words[..count],
+        table,
+        marks,
+        sentence,
+        derivation,
+        text,
+        begun,
+    )
+}
+
+// The next piece, after those that lead to here.
+fn next_piece(
     words: &[u16],
     table: &[u16],
     marks: &mut [u8],
     sentence: &mut [u16],
     derivation: &mut [u16],
     text: &mut [u8],
-    so: Printed,
-) -> Printed
-    requires { ⌜ (so .waiting ≤ length (now text)) × (so .count ≤ 256) × (mostLine ≤ length (now text)) ⌝ }
-    ensures { λ r. ⌜ PrintedNext (now (words .entry)) (now (table .entry))
-        (record { marks = now (marks .entry); tokens = now (sentence .entry); rules = now (derivation .entry) })
-        (record { marks = now (marks .exit); tokens = now (sentence .exit); rules = now (derivation .exit) })
-        (now (text .entry)) (now (text .exit)) so r ⌝ }
+    so: Piece,
+) -> Piece
+    requires { ⌜ Large (now marks) (now sentence) (now derivation) (now text) ⌝ }
+    requires { ⌜ Reached (now words) (now table) (now marks) so ⌝ }
+    requires { ⌜ so .over ≡ false ⌝ }
+    ensures { λ r. ⌜ NextPiece (now (words .entry)) (now (table .entry)) (now (marks .entry)) (now (marks .exit))
+        (now (text .exit)) so r ⌝ }
 {
-    let ready = with_room(text, so);
-    if ready.over {
-        return ready;
+    let count = so.words;
+    fill(
+        &words[..count],
+        table,
+        marks,
+        sentence,
+        derivation,
+        text,
+        Piece {
+            words: count,
+            count: so.count,
+            length: 0,
+            over: false,
+        },
+    )
+}
+
+// Puts line after line behind what waits, while the longest one surely fits.
+fn fill(
+    words: &[u16],
+    table: &[u16],
+    marks: &mut [u8],
+    sentence: &mut [u16],
+    derivation: &mut [u16],
+    text: &mut [u8],
+    begun: Piece,
+) -> Piece
+    requires { ⌜ Large (now marks) (now sentence) (now derivation) (now text) ⌝ }
+    requires { ⌜ Waits (now words) (now table) (now marks) (now text) begun ⌝ }
+    ensures { λ r. ⌜ Filled (now (words .entry)) (now (table .entry)) (now (marks .entry)) (now (marks .exit))
+        (now (text .entry)) (now (text .exit)) begun r ⌝ }
+{
+    let mut so = begun;
+    while !so.over && MOST_LINE <= text.len() - so.length {
+        so = answered(words, table, marks, sentence, derivation, text, so);
     }
-    answered(words, table, marks, sentence, derivation, text, ready)
+    so
 }
 
 // One call of `next`, and the line for what it answers behind what waits.
@@ -144,8 +182,8 @@ fn answered(
     sentence: &mut [u16],
     derivation: &mut [u16],
     text: &mut [u8],
-    so: Printed,
-) -> Printed
+    so: Piece,
+) -> Piece
     requires { ⌜ so .count ≤ 256 ⌝ }
     ensures { λ r. ⌜ Answered (now (words .entry)) (now (table .entry))
         (record { marks = now (marks .entry); tokens = now (sentence .entry); rules = now (derivation .entry) })
@@ -157,50 +195,83 @@ fn answered(
             target,
             tokens,
             rules,
-        } => Printed {
+        } => Piece {
+            words: so.words,
             count: so.count + 1,
-            waiting: lines::sentence(
+            length: lines::sentence(
                 target,
                 &sentence[..tokens],
                 &derivation[..rules],
                 text,
-                so.waiting,
+                so.length,
             ),
             over: false,
         },
-        NextAnswer::Finished => Printed {
+        NextAnswer::Finished => Piece {
+            words: so.words,
             count: so.count,
-            waiting: lines::end(so.count, text, so.waiting),
+            length: lines::end(so.count, text, so.length),
             over: true,
         },
-        NextAnswer::Refused { number, place } => Printed {
+        NextAnswer::Refused { number, place } => Piece {
+            words: so.words,
             count: so.count,
-            waiting: lines::refused(number, place, text, so.waiting),
+            length: lines::refused(number, place, text, so.length),
             over: true,
         },
     }
 }
 
-// Writes what waits, where the longest line would not fit behind it.
-fn with_room(text: &[u8], so: Printed) -> Printed
-    requires { ⌜ (so .waiting ≤ length (now text)) × (mostLine ≤ length (now text)) ⌝ }
-    ensures { λ r. ⌜ Ready (length (now (text .entry))) so r ⌝ }
+// The first line of a file's text, at the front of the text.
+fn begin(file: &[u8], words: &mut [u16], table: &mut [u16], text: &mut [u8]) -> Piece
+    requires { ⌜ (8707 ≤ length (now words)) × (896 ≤ length (now table)) × (mostLine ≤ length (now text)) ⌝ }
+    ensures { λ r. ⌜ Begun (now (file .entry)) (now (words .exit)) (now (table .exit)) (now (text .exit)) r ⌝ }
 {
-    let waiting = so.waiting;
-    if MOST_LINE <= text.len() - waiting {
-        return so;
-    }
-    let is_written = print(text, waiting);
-    Printed {
-        count: so.count,
-        waiting: 0,
-        over: !is_written,
+    match packed::unpack(file, words) {
+        FileAnswer::Done(count) => of_words(&words[..count], table, text),
+        FileAnswer::Refused { number, place } => refused(number, place, text),
     }
 }
 
-// Writes the first octets of the text, and answers whether that succeeded.
-fn print(text: &[u8], count: usize) -> bool
-    requires { ⌜ count ≤ length (now text) ⌝ }
+fn of_words(words: &[u16], table: &mut [u16], text: &mut [u8]) -> Piece
+    requires { ⌜ (896 ≤ length (now table)) × (mostLine ≤ length (now text)) ⌝ }
+    ensures { λ r. ⌜ OfWords (now (words .entry)) (now (table .exit)) (now (text .exit)) r ⌝ }
 {
-    io::write_all(libc::STDOUT_FILENO, &text[..count])
+    match tables::tables(words, table) {
+        TableAnswer::Done(_) => of_grammar(words, text),
+        TableAnswer::Refused { number, place } => refused(number, place, text),
+    }
+}
+
+fn of_grammar(words: &[u16], text: &mut [u8]) -> Piece
+    requires { ⌜ mostLine ≤ length (now text) ⌝ }
+    ensures { λ r. ⌜ FirstLine (now (words .entry)) (now (text .exit)) r ⌝ }
+{
+    match layout::judge(words) {
+        LayoutAnswer::Grammar {
+            nonterminals,
+            terminals,
+            start: _,
+            rules,
+        } => Piece {
+            words: words.len(),
+            count: 0,
+            length: lines::suite(nonterminals, terminals, rules, text, 0),
+            over: false,
+        },
+        LayoutAnswer::Fault { place } => refused(answers::BROKEN_LAYOUT, place, text),
+    }
+}
+
+// The one line of a refused file.
+fn refused(number: u16, place: usize, text: &mut [u8]) -> Piece
+    requires { ⌜ mostLine ≤ length (now text) ⌝ }
+    ensures { λ r. ⌜ OneLine number place (now (text .exit)) r ⌝ }
+{
+    Piece {
+        words: 0,
+        count: 0,
+        length: lines::refused(number, place, text, 0),
+        over: true,
+    }
 }

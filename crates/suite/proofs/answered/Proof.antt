@@ -80,6 +80,7 @@ returns c =
       answer = Next (told .0 .0) (told .0 .1 .0) (told .0 .1 .1 .0);
       promise = rw (told .1) at promised;
       line = c .before .before .sentence2 .ensures;
+      same-words = refl;
       count = refl;
       last = refl;
     }
@@ -104,6 +105,7 @@ returns-2 c =
       answer = Finished;
       promise = rw (known .enum-told .given .1) at promised;
       line = c .before .before .end .ensures;
+      same-words = refl;
       count = refl;
       last = refl;
     }
@@ -129,6 +131,7 @@ returns-3 c =
       answer = Refused (told .0 .0) (told .0 .1 .0);
       promise = rw (told .1) at promised;
       line = c .before .before .refused .ensures;
+      same-words = refl;
       count = refl;
       last = refl;
     }

@@ -1,0 +1,132 @@
+-- `suite::print_pieces` meets what the pieces require, and ends. The loop's invariant: the pieces of successive calls for the file lead
+-- to here (`Pieces`). Each turn leaves one less (`turns`). Assumes nothing.
+use Prim.Native.Nat.{ℕ, _≤_}
+use native.Mathlib.Omega.{arith}
+use mathlib.Core.Path.{_≡_, refl}
+use mathlib.Core.List.{List}
+use borrow.Author.Tests.{not-true}
+use lib.ListN.{length}
+use Rattle.suite.specs.Pieces.{mostLine, Pieces, first, next}
+use Rattle.suite.proofs.MoreLines.{count-few, turns, turns-fall}
+use Rattle.suite.proofs.WholeText.{pieces-so-far, zeros-clear}
+use borrow.Author.Needs.{needs}
+use Rattle.suite.proofs.print_pieces.Statement.{statement}
+use Rattle.suite.proofs.print_pieces.Tie as tie
+
+abbrev Inv-loop : tie.InvT-loop
+Inv-loop file text₀ words table marks₀ sentence₀ derivation₀ so₀ is-written₀ text marks sentence derivation so is-written =
+    (length text ≡ length text₀) × (256 ≡ length marks) × (4096 ≡ length sentence) × (4096 ≡ length derivation) ×
+    (mostLine ≤ length text) × ((calls : ℕ) × (out : List ℕ) × Pieces file words table calls out marks so)
+
+abbrev μ-loop : tie.MeasureT-loop
+μ-loop file text₀ words table marks₀ sentence₀ derivation₀ so₀ is-written₀ text marks sentence derivation so is-written =
+    turns (so .over) (so .count)
+
+slice-aggregate-first-piece : tie.Need-slice-aggregate-first-piece Inv-loop μ-loop
+slice-aggregate-first-piece c = search needs
+
+slice-aggregate-first-piece-2 : tie.Need-slice-aggregate-first-piece-2 Inv-loop μ-loop
+slice-aggregate-first-piece-2 c = search needs
+
+slice-aggregate-first-piece-3 : tie.Need-slice-aggregate-first-piece-3 Inv-loop μ-loop
+slice-aggregate-first-piece-3 c = search needs
+
+slice-aggregate-first-piece-4 : tie.Need-slice-aggregate-first-piece-4 Inv-loop μ-loop
+slice-aggregate-first-piece-4 c = search needs
+
+slice-aggregate-first-piece-5 : tie.Need-slice-aggregate-first-piece-5 Inv-loop μ-loop
+slice-aggregate-first-piece-5 c = search needs
+
+first-piece-requires : tie.Need-first-piece-requires Inv-loop μ-loop
+first-piece-requires c κs =
+    ((search needs, search needs), ((search needs, search needs, search needs, search needs), zeros-clear 256))
+
+print-requires : tie.Need-print-requires Inv-loop μ-loop
+print-requires c κs = search needs
+
+loop-holds : tie.Need-loop-holds Inv-loop μ-loop
+loop-holds c =
+    (search needs, search needs, search needs, search needs, search needs, (0, _, first (c .before .before .before .before .before .before .before .before .before .first-piece .ensures)))
+
+slice-aggregate-next-piece : tie.Need-slice-aggregate-next-piece Inv-loop μ-loop
+slice-aggregate-next-piece c = search needs
+
+slice-aggregate-next-piece-2 : tie.Need-slice-aggregate-next-piece-2 Inv-loop μ-loop
+slice-aggregate-next-piece-2 c = search needs
+
+slice-aggregate-next-piece-3 : tie.Need-slice-aggregate-next-piece-3 Inv-loop μ-loop
+slice-aggregate-next-piece-3 c = search needs
+
+slice-aggregate-next-piece-4 : tie.Need-slice-aggregate-next-piece-4 Inv-loop μ-loop
+slice-aggregate-next-piece-4 c = search needs
+
+slice-aggregate-next-piece-5 : tie.Need-slice-aggregate-next-piece-5 Inv-loop μ-loop
+slice-aggregate-next-piece-5 c = search needs
+
+next-piece-requires : tie.Need-next-piece-requires Inv-loop μ-loop
+next-piece-requires c κs =
+    let inv = c .before .before .before .before .before .before .before .before .before .loop .inv in (
+      (search needs, search needs, search needs, search needs),
+      (record { file = _; calls = inv .5 .0; out = inv .5 .1; pieces = inv .5 .2 }, not-true _ (c .before .before .before .before .before .before .if1 .taken)),
+    )
+
+print-requires-2 : tie.Need-print-requires-2 Inv-loop μ-loop
+print-requires-2 c κs = search needs
+
+loop-less : tie.Need-loop-less Inv-loop μ-loop
+loop-less c =
+    let inv = c .before .before .before .before .before .before .before .before .before .before .before .before .before .before .before .before .before .loop .inv in
+    let on = not-true _ (c .before .before .before .before .before .before .before .before .before .before .before .before .before .before .if1 .taken) in
+    turns-fall _ _ _ _ on (count-few (pieces-so-far (inv .5 .2)) on) (c .before .before .before .before .before .before .before .next-piece .ensures .more)
+
+loop-again : tie.Need-loop-again Inv-loop μ-loop
+loop-again c =
+    let inv = c .before .before .before .before .before .before .before .before .before .before .before .before .before .before .before .before .before .loop .inv in
+    let on = not-true _ (c .before .before .before .before .before .before .before .before .before .before .before .before .before .before .if1 .taken) in (
+      search needs,
+      search needs,
+      search needs,
+      search needs,
+      search needs,
+      (_, _, next (inv .5 .2) on (c .before .before .before .before .before .before .before .next-piece .ensures)),
+    )
+
+same-length : tie.Need-same-length Inv-loop μ-loop
+same-length c = search needs
+
+returns : tie.Need-returns Inv-loop μ-loop
+returns c = search needs
+
+same-length-2 : tie.Need-same-length-2 Inv-loop μ-loop
+same-length-2 c = search needs
+
+returns-2 : tie.Need-returns-2 Inv-loop μ-loop
+returns-2 c = search needs
+
+pub print-pieces-spec : {M : Type 1} → statement M
+print-pieces-spec =
+    tie.close
+    (tie.spec
+    Inv-loop
+    μ-loop
+    slice-aggregate-first-piece
+    slice-aggregate-first-piece-2
+    slice-aggregate-first-piece-3
+    slice-aggregate-first-piece-4
+    slice-aggregate-first-piece-5
+    first-piece-requires
+    print-requires
+    loop-holds
+    slice-aggregate-next-piece
+    slice-aggregate-next-piece-2
+    slice-aggregate-next-piece-3
+    slice-aggregate-next-piece-4
+    slice-aggregate-next-piece-5
+    next-piece-requires
+    print-requires-2
+    loop-less
+    loop-again
+    same-length
+    returns
+    same-length-2
+    returns-2)
