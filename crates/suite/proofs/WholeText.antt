@@ -8,7 +8,7 @@ use mathlib.Core.List.{List, [], _++_, append-nil}
 use lib.ListN.{length, take, replicate}
 use Rattle.suite.specs.declared.Piece.{Piece}
 use Rattle.suite.specs.Text.{Text}
-use Rattle.suite.specs.Pieces.{mostLine, Clear, SoFar, going, whole, FirstPiece, NextPiece, Pieces, first, next, Reached}
+use Rattle.suite.specs.Pieces.{mostLine, Clear, SoFar, going, whole, FirstPiece, NextPiece, Pieces, first, next, Reached, Made}
 use Rattle.suite.specs.Filled.{Waits, Filled}
 use Rattle.suite.specs.Begun.{Begun}
 use Rattle.suite.proofs.MoreLines.{true-not-false, count-few}
@@ -72,6 +72,19 @@ module _ {words table marks : List ℕ} {so : Piece} where
     behind = λ file out z. f .behind file out (rw (append-nil out) (rw on at z));
     more = λ is. f .more refl (omega arith) is;
   }
+
+pub piece-made : {file words table marks text : List ℕ} {calls : ℕ} {so : Piece} (before : List ℕ) → so .length ≤ length text →
+    Pieces file words table calls (before ++ take (so .length) text) marks so → Made text so
+piece-made {file} {words} {table} {marks} {calls = calls} before within pieces = record {
+  within = within;
+  file = file;
+  words = words;
+  table = table;
+  marks = marks;
+  calls = calls;
+  before = before;
+  pieces = pieces;
+}
 
 -- the marks as the program begins
 pub zeros-clear : (n : ℕ) → Clear (replicate n 0)

@@ -29,6 +29,12 @@ isLast (Next r n m) = false
 isLast Finished = true
 isLast (Refused k p) = true
 
+-- the last line written behind what waits in the text
+abbrev pub Ended : List ℕ → List ℕ → Piece → Piece → Type 0
+Ended text text′ so then =
+    Written (endLine (so .count)) text (so .length) text′ (then .length) × (then .words ≡ so .words) ×
+    (then .count ≡ so .count) × (then .over ≡ true)
+
 -- one call of `next`, and its line written behind what waits in the text
 pub record Answered (words table : List ℕ) (before after : Lent) (text text′ : List ℕ) (so then : Piece) : Type 0 where
   pub answer : NextAnswer

@@ -8,10 +8,10 @@ ghost use mathlib.Core.Path.{_≡_};
 ghost use mathlib.Core.Bool.{false};
 ghost use lib.ListN.{length};
 ghost use Rattle.handout.specs.Next.{Lent};
-ghost use Rattle.suite.specs.Answered.{Answered};
+ghost use Rattle.suite.specs.Answered.{Ended, Answered};
 ghost use Rattle.suite.specs.Begun.{OneLine, FirstLine, OfWords, Begun};
 ghost use Rattle.suite.specs.Filled.{Waits, Filled};
-ghost use Rattle.suite.specs.Pieces.{mostLine, Clear, Large, FirstPiece, Reached, NextPiece};
+ghost use Rattle.suite.specs.Pieces.{mostLine, Clear, Large, FirstPiece, Reached, NextPiece, Made};
 use grammar::layout;
 use grammar::layout::LayoutAnswer;
 use handout::NextAnswer;
@@ -68,7 +68,7 @@ fn print_pieces(file: &[u8], text: &mut [u8])
         &mut derivation,
         text,
     );
-    let mut is_written = print(text, so.length);
+    let mut is_written = print(text, so);
     while is_written && !so.over {
         so = next_piece(
             &words,
@@ -79,15 +79,16 @@ fn print_pieces(file: &[u8], text: &mut [u8])
             text,
             so,
         );
-        is_written = print(text, so.length);
+        is_written = print(text, so);
     }
 }
 
-// Writes the first octets of the text, and answers whether that succeeded.
-fn print(text: &[u8], count: usize) -> bool
-    requires { ⌜ count ≤ length (now text) ⌝ }
+// Writes the piece that was made last, and answers whether that succeeded.
+fn print(text: &[u8], so: Piece) -> bool
+    requires { ⌜ Made (now text) so ⌝ }
 {
-    io::write_all(libc::STDOUT_FILENO, &text[..count])
+    let length = so.length;
+    io::write_all(libc::STDOUT_FILENO, &text[..length])
 }
 
 // The first piece of a file's text, from clear marks: the line of a refused file, or the first line and what fits behind it.
@@ -207,18 +208,25 @@ fn answered(
             ),
             over: false,
         },
-        NextAnswer::Finished => Piece {
-            words: so.words,
-            count: so.count,
-            length: lines::end(so.count, text, so.length),
-            over: true,
-        },
+        NextAnswer::Finished => ended(text, so),
         NextAnswer::Refused { number, place } => Piece {
             words: so.words,
             count: so.count,
             length: lines::refused(number, place, text, so.length),
             over: true,
         },
+    }
+}
+
+// The last line, behind what waits.
+fn ended(text: &mut [u8], so: Piece) -> Piece
+    ensures { λ r. ⌜ Ended (now (text .entry)) (now (text .exit)) so r ⌝ }
+{
+    Piece {
+        words: so.words,
+        count: so.count,
+        length: lines::end(so.count, text, so.length),
+        over: true,
     }
 }
 

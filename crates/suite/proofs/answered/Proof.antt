@@ -2,7 +2,7 @@
 use mathlib.Core.Path.{refl, sym}
 use lib.Seq.{length-take-le}
 use Rattle.handout.specs.declared.NextAnswer.the-variants.{Next, Finished, Refused}
-use Rattle.handout.proofs.NextExact.{next-writes}
+use Rattle.handout.proofs.Main.{next-writes}
 use borrow.Author.Needs.{needs}
 use Rattle.suite.proofs.answered.Statement.{statement}
 use Rattle.suite.proofs.answered.Tie as tie
@@ -18,30 +18,22 @@ add-t21 c = search needs
 
 slice-reshare-prefix-sentence : tie.Need-slice-reshare-prefix-sentence
 slice-reshare-prefix-sentence c =
-    let known = c .before .before in
-    let handed = next-writes (known .before .before .before .before .before .before .before .before .next .ensures) _ _ _
-    (known .target .given .1) in
+    let handed = next-writes (c .before .before .before .before .before .before .before .before .before .before .next .ensures) _ _ _ (c .before .before .target .given .1) in
     handed .2 .tokens .within
 
 slice-aggregate-sentence : tie.Need-slice-aggregate-sentence
 slice-aggregate-sentence c =
-    let known = c .before .before .before in
-    let handed = next-writes (known .before .before .before .before .before .before .before .before .next .ensures) _ _ _
-    (known .target .given .1) in
+    let handed = next-writes (c .before .before .before .before .before .before .before .before .before .before .before .next .ensures) _ _ _ (c .before .before .before .target .given .1) in
     sym (length-take-le _ _ (handed .2 .tokens .within))
 
 slice-reshare-prefix-sentence-2 : tie.Need-slice-reshare-prefix-sentence-2
 slice-reshare-prefix-sentence-2 c =
-    let known = c .before .before .before in
-    let handed = next-writes (known .before .before .before .before .before .before .before .before .next .ensures) _ _ _
-    (known .target .given .1) in
+    let handed = next-writes (c .before .before .before .before .before .before .before .before .before .before .before .next .ensures) _ _ _ (c .before .before .before .target .given .1) in
     handed .2 .rules .within
 
 slice-aggregate-sentence-2 : tie.Need-slice-aggregate-sentence-2
 slice-aggregate-sentence-2 c =
-    let known = c .before .before .before .before in
-    let handed = next-writes (known .before .before .before .before .before .before .before .before .next .ensures) _ _ _
-    (known .target .given .1) in
+    let handed = next-writes (c .before .before .before .before .before .before .before .before .before .before .before .before .next .ensures) _ _ _ (c .before .before .before .before .target .given .1) in
     sym (length-take-le _ _ (handed .2 .rules .within))
 
 sentence-requires : tie.Need-sentence-requires
@@ -50,8 +42,8 @@ sentence-requires c κs = search needs
 enum-told : tie.Need-enum-told
 enum-told c = search needs
 
-end-requires : tie.Need-end-requires
-end-requires c κs = search needs
+ended-requires : tie.Need-ended-requires
+ended-requires c κs = search needs
 
 enum-known-number : tie.Need-enum-known-number
 enum-known-number c = search needs
@@ -73,12 +65,10 @@ same-length-4 c = search needs
 
 returns : tie.Need-returns
 returns c =
-    let known = c .before .before .before .before .before .before .before .before in
-    let told = known .target .given in
-    let promised = known .before .before .before .before .before .before .before .before .next .ensures in
+    let told = c .before .before .before .before .before .before .before .before .target .given in
     record {
       answer = Next (told .0 .0) (told .0 .1 .0) (told .0 .1 .1 .0);
-      promise = rw (told .1) at promised;
+      promise = rw (told .1) at (c .before .before .before .before .before .before .before .before .before .before .before .before .before .before .before .before .next .ensures);
       line = c .before .before .sentence2 .ensures;
       same-words = refl;
       count = refl;
@@ -99,15 +89,14 @@ same-length-8 c = search needs
 
 returns-2 : tie.Need-returns-2
 returns-2 c =
-    let known = c .before .before .before .before in
-    let promised = known .before .before .before .before .before .before .before .before .next .ensures in
+    let (line, words, count, over) = c .before .before .ended .ensures in
     record {
       answer = Finished;
-      promise = rw (known .enum-told .given .1) at promised;
-      line = c .before .before .end .ensures;
-      same-words = refl;
-      count = refl;
-      last = refl;
+      promise = rw (c .before .before .before .before .enum-told .given .1) at (c .before .before .before .before .before .before .before .before .before .before .before .before .next .ensures);
+      line = line;
+      same-words = words;
+      count = count;
+      last = over;
     }
 
 same-length-9 : tie.Need-same-length-9
@@ -124,12 +113,10 @@ same-length-12 c = search needs
 
 returns-3 : tie.Need-returns-3
 returns-3 c =
-    let known = c .before .before .before .before .before in
-    let told = known .number .given in
-    let promised = known .before .before .before .before .before .before .before .before .next .ensures in
+    let told = c .before .before .before .before .before .number .given in
     record {
       answer = Refused (told .0 .0) (told .0 .1 .0);
-      promise = rw (told .1) at promised;
+      promise = rw (told .1) at (c .before .before .before .before .before .before .before .before .before .before .before .before .before .next .ensures);
       line = c .before .before .refused .ensures;
       same-words = refl;
       count = refl;
@@ -149,7 +136,7 @@ answered-spec =
     slice-aggregate-sentence-2
     sentence-requires
     enum-told
-    end-requires
+    ended-requires
     enum-known-number
     refused-requires
     same-length

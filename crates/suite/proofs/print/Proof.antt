@@ -6,8 +6,7 @@ use Rattle.suite.proofs.print.Statement.{statement}
 use Rattle.suite.proofs.print.Tie as tie
 
 slice-aggregate-write-all : tie.Need-slice-aggregate-write-all
-slice-aggregate-write-all c =
-    sym (length-take-le (c .before .before .args .count) (c .before .before .args .text .now) (c .before .before .pre))
+slice-aggregate-write-all c = sym (length-take-le _ _ (c .before .before .pre .within))
 
 write-all-requires : tie.Need-write-all-requires
 write-all-requires c κs = search needs

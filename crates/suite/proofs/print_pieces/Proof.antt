@@ -3,12 +3,12 @@
 use Prim.Native.Nat.{ℕ, _≤_}
 use native.Mathlib.Omega.{arith}
 use mathlib.Core.Path.{_≡_, refl}
-use mathlib.Core.List.{List}
+use mathlib.Core.List.{List, []}
 use borrow.Author.Tests.{not-true}
 use lib.ListN.{length}
 use Rattle.suite.specs.Pieces.{mostLine, Pieces, first, next}
 use Rattle.suite.proofs.MoreLines.{count-few, turns, turns-fall}
-use Rattle.suite.proofs.WholeText.{pieces-so-far, zeros-clear}
+use Rattle.suite.proofs.WholeText.{pieces-so-far, piece-made, zeros-clear}
 use borrow.Author.Needs.{needs}
 use Rattle.suite.proofs.print_pieces.Statement.{statement}
 use Rattle.suite.proofs.print_pieces.Tie as tie
@@ -42,7 +42,7 @@ first-piece-requires c κs =
     ((search needs, search needs), ((search needs, search needs, search needs, search needs), zeros-clear 256))
 
 print-requires : tie.Need-print-requires Inv-loop μ-loop
-print-requires c κs = search needs
+print-requires c κs = piece-made [] (c .before .before .before .before .before .before .before .before .first-piece .ensures .within) (first (c .before .before .before .before .before .before .before .before .first-piece .ensures))
 
 loop-holds : tie.Need-loop-holds Inv-loop μ-loop
 loop-holds c =
@@ -71,7 +71,10 @@ next-piece-requires c κs =
     )
 
 print-requires-2 : tie.Need-print-requires-2 Inv-loop μ-loop
-print-requires-2 c κs = search needs
+print-requires-2 c κs =
+    let made = c .before .before .before .before .before .before .next-piece .ensures in
+    let inv = c .before .before .before .before .before .before .before .before .before .before .before .before .before .before .before .before .loop .inv in
+    piece-made (inv .5 .1) (made .within) (next (inv .5 .2) (not-true _ (c .before .before .before .before .before .before .before .before .before .before .before .before .before .if1 .taken)) made)
 
 loop-less : tie.Need-loop-less Inv-loop μ-loop
 loop-less c =
