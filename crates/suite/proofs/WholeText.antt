@@ -73,15 +73,15 @@ module _ {words table marks : List ℕ} {so : Piece} where
     more = λ is. f .more refl (omega arith) is;
   }
 
-pub piece-made : {file words table marks text : List ℕ} {calls : ℕ} {so : Piece} (before : List ℕ) → so .length ≤ length text →
-    Pieces file words table calls (before ++ take (so .length) text) marks so → Made text so
-piece-made {file} {words} {table} {marks} {calls = calls} before within pieces = record {
-  within = within;
+pub piece-made : {file words table marks piece : List ℕ} {calls : ℕ} {so : Piece} (before : List ℕ) →
+    Pieces file words table calls (before ++ piece) marks so → Made piece
+piece-made {file} {words} {table} {marks} {piece} {calls} {so} before pieces = record {
   file = file;
   words = words;
   table = table;
   marks = marks;
   calls = calls;
+  so = so;
   before = before;
   pieces = pieces;
 }

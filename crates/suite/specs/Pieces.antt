@@ -59,13 +59,13 @@ pub record Reached (words table marks : List ℕ) (so : Piece) : Type 0 where
   pub out : List ℕ
   pub pieces : Pieces file words table calls out marks so
 
--- the front of the text is the piece that the last of the calls made
-pub record Made (text : List ℕ) (so : Piece) : Type 0 where
-  pub within : so .length ≤ length text
+-- this is the piece that the last of some successive calls made
+pub record Made (piece : List ℕ) : Type 0 where
   pub file : List ℕ
   pub words : List ℕ
   pub table : List ℕ
   pub marks : List ℕ
   pub calls : ℕ
+  pub so : Piece
   pub before : List ℕ
-  pub pieces : Pieces file words table calls (before ++ take (so .length) text) marks so
+  pub pieces : Pieces file words table calls (before ++ piece) marks so

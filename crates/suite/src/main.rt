@@ -68,7 +68,8 @@ fn print_pieces(file: &[u8], text: &mut [u8])
         &mut derivation,
         text,
     );
-    let mut is_written = print(text, so);
+    let mut end = so.length;
+    let mut is_written = print(&text[..end]);
     while is_written && !so.over {
         so = next_piece(
             &words,
@@ -79,16 +80,16 @@ fn print_pieces(file: &[u8], text: &mut [u8])
             text,
             so,
         );
-        is_written = print(text, so);
+        end = so.length;
+        is_written = print(&text[..end]);
     }
 }
 
-// Writes the piece that was made last, and answers whether that succeeded.
-fn print(text: &[u8], so: Piece) -> bool
-    requires { ⌜ Made (now text) so ⌝ }
+// Writes a piece, and answers whether that succeeded.
+fn print(piece: &[u8]) -> bool
+    requires { ⌜ Made (now piece) ⌝ }
 {
-    let length = so.length;
-    io::write_all(libc::STDOUT_FILENO, &text[..length])
+    io::write_all(libc::STDOUT_FILENO, piece)
 }
 
 // The first piece of a file's text, from clear marks: the line of a refused file, or the first line and what fits behind it.

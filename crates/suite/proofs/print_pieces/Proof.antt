@@ -1,25 +1,25 @@
--- `suite::print_pieces` meets what the pieces require, and ends. The loop's invariant: the pieces of successive calls for the file lead
--- to here (`Pieces`). Each turn leaves one less (`turns`). Assumes nothing.
+-- `suite::print_pieces` meets what the pieces require, writes each that was made, and ends. The loop's invariant: the pieces of successive
+-- calls for the file lead to here (`Pieces`). Each turn leaves one less (`turns`). Assumes nothing.
 use Prim.Native.Nat.{ℕ, _≤_}
-use native.Mathlib.Omega.{arith}
-use mathlib.Core.Path.{_≡_, refl}
+use mathlib.Core.Path.{_≡_, sym}
 use mathlib.Core.List.{List, []}
-use borrow.Author.Tests.{not-true}
 use lib.ListN.{length}
+use lib.Seq.{length-take-le}
+use borrow.Author.Needs.{needs}
+use borrow.Author.Tests.{not-true}
 use Rattle.suite.specs.Pieces.{mostLine, Pieces, first, next}
 use Rattle.suite.proofs.MoreLines.{count-few, turns, turns-fall}
 use Rattle.suite.proofs.WholeText.{pieces-so-far, piece-made, zeros-clear}
-use borrow.Author.Needs.{needs}
 use Rattle.suite.proofs.print_pieces.Statement.{statement}
 use Rattle.suite.proofs.print_pieces.Tie as tie
 
 abbrev Inv-loop : tie.InvT-loop
-Inv-loop file text₀ words table marks₀ sentence₀ derivation₀ so₀ is-written₀ text marks sentence derivation so is-written =
+Inv-loop file text₀ words table marks₀ sentence₀ derivation₀ so₀ end₀ is-written₀ text marks sentence derivation so end is-written =
     (length text ≡ length text₀) × (256 ≡ length marks) × (4096 ≡ length sentence) × (4096 ≡ length derivation) ×
     (mostLine ≤ length text) × ((calls : ℕ) × (out : List ℕ) × Pieces file words table calls out marks so)
 
 abbrev μ-loop : tie.MeasureT-loop
-μ-loop file text₀ words table marks₀ sentence₀ derivation₀ so₀ is-written₀ text marks sentence derivation so is-written =
+μ-loop file text₀ words table marks₀ sentence₀ derivation₀ so₀ end₀ is-written₀ text marks sentence derivation so end is-written =
     turns (so .over) (so .count)
 
 slice-aggregate-first-piece : tie.Need-slice-aggregate-first-piece Inv-loop μ-loop
@@ -41,8 +41,14 @@ first-piece-requires : tie.Need-first-piece-requires Inv-loop μ-loop
 first-piece-requires c κs =
     ((search needs, search needs), ((search needs, search needs, search needs, search needs), zeros-clear 256))
 
+slice-reshare-prefix-print : tie.Need-slice-reshare-prefix-print Inv-loop μ-loop
+slice-reshare-prefix-print c = c .before .before .before .before .before .before .before .first-piece .ensures .within
+
+slice-aggregate-print : tie.Need-slice-aggregate-print Inv-loop μ-loop
+slice-aggregate-print c = sym (length-take-le _ _ (c .before .before .before .before .before .before .before .before .first-piece .ensures .within))
+
 print-requires : tie.Need-print-requires Inv-loop μ-loop
-print-requires c κs = piece-made [] (c .before .before .before .before .before .before .before .before .first-piece .ensures .within) (first (c .before .before .before .before .before .before .before .before .first-piece .ensures))
+print-requires c κs = piece-made [] (first (c .before .before .before .before .before .before .before .before .first-piece .ensures))
 
 loop-holds : tie.Need-loop-holds Inv-loop μ-loop
 loop-holds c =
@@ -70,11 +76,16 @@ next-piece-requires c κs =
       (record { file = _; calls = inv .5 .0; out = inv .5 .1; pieces = inv .5 .2 }, not-true _ (c .before .before .before .before .before .before .if1 .taken)),
     )
 
+slice-reshare-prefix-print-2 : tie.Need-slice-reshare-prefix-print-2 Inv-loop μ-loop
+slice-reshare-prefix-print-2 c = c .before .before .before .before .before .next-piece .ensures .within
+
+slice-aggregate-print-2 : tie.Need-slice-aggregate-print-2 Inv-loop μ-loop
+slice-aggregate-print-2 c = sym (length-take-le _ _ (c .before .before .before .before .before .before .next-piece .ensures .within))
+
 print-requires-2 : tie.Need-print-requires-2 Inv-loop μ-loop
 print-requires-2 c κs =
-    let made = c .before .before .before .before .before .before .next-piece .ensures in
     let inv = c .before .before .before .before .before .before .before .before .before .before .before .before .before .before .before .before .loop .inv in
-    piece-made (inv .5 .1) (made .within) (next (inv .5 .2) (not-true _ (c .before .before .before .before .before .before .before .before .before .before .before .before .before .if1 .taken)) made)
+    piece-made (inv .5 .1) (next (inv .5 .2) (not-true _ (c .before .before .before .before .before .before .before .before .before .before .before .before .before .if1 .taken)) (c .before .before .before .before .before .before .next-piece .ensures))
 
 loop-less : tie.Need-loop-less Inv-loop μ-loop
 loop-less c =
@@ -118,6 +129,8 @@ print-pieces-spec =
     slice-aggregate-first-piece-4
     slice-aggregate-first-piece-5
     first-piece-requires
+    slice-reshare-prefix-print
+    slice-aggregate-print
     print-requires
     loop-holds
     slice-aggregate-next-piece
@@ -126,6 +139,8 @@ print-pieces-spec =
     slice-aggregate-next-piece-4
     slice-aggregate-next-piece-5
     next-piece-requires
+    slice-reshare-prefix-print-2
+    slice-aggregate-print-2
     print-requires-2
     loop-less
     loop-again
