@@ -8,7 +8,7 @@ use mathlib.Core.List.{List}
 use mathlib.Core.Path.{_≡_, refl}
 use lib.Dec.{ltb}
 use borrow.Author.Tests.{lt-ltb, le-ltb}
-use Rattle.grammar.proofs.Certificate.{either}
+use Rattle.grammar.specs.Certificates.{either}
 use Rattle.tables.specs.Table.{entry}
 
 -- how many of the first m nonterminals have a context below x

@@ -15,12 +15,13 @@ use Rattle.grammar.specs.Tree.{Forest, nil, leaf, child, sentence, sentences, d
 use Rattle.grammar.specs.Measure.{plain}
 use Rattle.grammar.specs.Least.{Least, RuleSize, Chosen, ChosenForest}
 use Rattle.grammar.specs.Refusals.{AllFit}
-use Rattle.grammar.proofs.Certificate.{symbolSize, wordSize, word-sizes}
+use Rattle.grammar.specs.Certificates.{symbolSize, wordSize}
+use Rattle.grammar.proofs.Certificate.{word-sizes}
 use Rattle.grammar.proofs.LayoutExact.{in-bounds}
 use Rattle.grammar.proofs.RuleNumbers.{rule-number}
 use Rattle.grammar.proofs.Unique.{least-unique, sizes-unique}
 use Rattle.tables.specs.Table.{entry}
-use Rattle.tables.proofs.TablePlaces.{entry-front}
+use Rattle.tables.proofs.Main.{entry-front}
 use Rattle.grammar.proofs.RulesInView.{viewed-right}
 use Rattle.handout.specs.declared.lister.Lengths.{Lengths}
 use Rattle.handout.specs.Listing.{Known, sizeBy, sizesBy, rightOf, SymbolListed, of-terminal, of-nonterminal, SymbolsListed}

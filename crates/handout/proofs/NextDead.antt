@@ -9,7 +9,7 @@ use Rattle.grammar.specs.Words.{Grammar, layout, reads}
 use Rattle.grammar.specs.Refusals.{Lowest, NoTree, Unreached, AllTrees}
 use Rattle.tables.specs.Dead.{Dead}
 use Rattle.grammar.proofs.LayoutExact.{reads-unique}
-use Rattle.tables.proofs.DeadGrammars.{no-tree-dead, unreached-dead, dead-meets}
+use Rattle.tables.proofs.Main.{no-tree-dead, unreached-dead, dead-meets}
 use Rattle.handout.specs.Next.{NextPromise, Lent}
 use Rattle.handout.specs.Given.{SaysDead}
 use Rattle.handout.specs.declared.NextAnswer.{NextAnswer}

@@ -18,7 +18,7 @@ use Rattle.tables.specs.Table.{HasTable}
 use Rattle.answers.proofs.Gates.{stop, go}
 use Rattle.grammar.proofs.FirstRows.{OfWords, fault, grammar, FromFive}
 use Rattle.grammar.proofs.FirstRowsMet.{words-met, five-met}
-use Rattle.tables.proofs.TestSettles.{tabled?}
+use Rattle.tables.proofs.Main.{tabled?}
 use Rattle.handout.specs.Next.{NextPromise, Unused, AllUsed, Wanted, Lent}
 use Rattle.handout.specs.Next.{row-4, row-5, row-6, row-7, row-8, row-9, finished, row-3, row-10, next}
 use Rattle.handout.specs.declared.NextAnswer.{NextAnswer}

@@ -17,7 +17,7 @@ use Rattle.grammar.proofs.TreeOfExists.{tree-of-exists}
 use Rattle.grammar.proofs.Totals.{tree-of-total}
 use Rattle.grammar.proofs.SizeIsLength.{size-is-length}
 use Rattle.grammar.proofs.Unique.{total-unique}
-use Rattle.tables.proofs.TablePlaces.{total-front}
+use Rattle.tables.proofs.Main.{total-front}
 use Rattle.grammar.proofs.RuleNumbers.{rule-number}
 use Rattle.grammar.specs.Judge.{startsOf}
 use Rattle.tables.specs.Promise as tables

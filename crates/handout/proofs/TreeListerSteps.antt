@@ -13,7 +13,7 @@ use Rattle.grammar.proofs.LayoutExact.{in-bounds}
 use Rattle.grammar.proofs.RuleNumbers.{rule-number, rule-left}
 use Rattle.grammar.proofs.Unique.{choice-unique, context-unique}
 use Rattle.tables.specs.Table.{entry}
-use Rattle.tables.proofs.TablePlaces.{entry-front}
+use Rattle.tables.proofs.Main.{entry-front}
 use Rattle.grammar.proofs.RulesInView.{viewed-left, viewed-right}
 use Rattle.handout.specs.declared.lister.Lengths.{Lengths}
 use Rattle.handout.specs.Listing.{Known, sizesBy, rightOf, Wrote, SymbolsWritten}

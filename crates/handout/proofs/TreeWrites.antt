@@ -15,7 +15,7 @@ use Rattle.grammar.proofs.TreeOfExists.{tree-of-exists}
 use Rattle.grammar.proofs.Totals.{tree-of-total}
 use Rattle.grammar.proofs.Unique.{total-unique}
 use Rattle.grammar.proofs.RulesInView.{viewed-left, viewed-right}
-use Rattle.tables.proofs.TablePlaces.{total-front}
+use Rattle.tables.proofs.Main.{total-front}
 use Rattle.handout.specs.declared.lister.Lengths.{Lengths}
 use Rattle.handout.specs.Listing.{RuleReady, sizesBy, rightOf, SymbolsListed, Wrote, RuleWritten}
 use Rattle.handout.specs.TreeListing.{PathOf, before, after, tokensOn, rulesOn, SideReady, ClimbReady, WayReady}

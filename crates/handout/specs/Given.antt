@@ -13,7 +13,7 @@ use Rattle.grammar.specs.Tree.{Tree, sentence, derivation}
 use Rattle.grammar.specs.Refusals.{Lowest, NoTree, AllTrees, Unreached, AllReached, Oversize, Accepted}
 use Rattle.tables.specs.Table.{HasTable}
 use Rattle.grammar.specs.Words.{Are}
-use Rattle.tables.proofs.TestSettles.{Own}
+use Rattle.tables.specs.Given.{Own}
 use Rattle.handout.specs.Next.{refused, AllUsed, Marked, Wanted, Lent}
 use Rattle.handout.specs.declared.NextAnswer.{NextAnswer}
 

@@ -13,7 +13,7 @@ use Rattle.grammar.specs.Rules.{rightAt}
 use Rattle.grammar.specs.Tree.{Tree, Forest, sentence, sentences, derivation, derivations}
 use Rattle.grammar.specs.Measure.{plain}
 use Rattle.grammar.specs.Least.{ChosenTree, ChosenForest}
-use Rattle.grammar.proofs.Certificate.{either}
+use Rattle.grammar.specs.Certificates.{either}
 use Rattle.tables.specs.Table.{HasTable, entry}
 use Rattle.grammar.proofs.RulesInView.{View}
 use Rattle.handout.specs.declared.lister.Lengths.{Lengths}
