@@ -81,7 +81,7 @@ refused-few number place h k =
     let b = decimal-few 19 place (omega arith) in
     simp length-append (omega arith)
 
-first-proper : {g : Grammar} {r : ℕ} {t ks : List ℕ} {hs : List Handout} → AllProper g (handout r t ks ∷ hs) → Proper g hs r t ks
+pub first-proper : {g : Grammar} {r : ℕ} {t ks : List ℕ} {hs : List Handout} → AllProper g (handout r t ks ∷ hs) → Proper g hs r t ks
 first-proper (and-then p ps) = p
 
 module _ {words table : List ℕ} {hs : List Handout} {g : Grammar} (e : layout words ≡ reads g) {before after : Lent}

@@ -1,0 +1,179 @@
+-- The text of a file is settled: there is one, and no other. Into buffers with room for all, `unpack` and `tables` refuse by the
+-- file alone; and a night is settled. Assumes nothing.
+use Prim.Native.Nat.{ℕ, _+_, _*_, _%_, _≤_, _<_}
+use native.Mathlib.Omega.{arith}
+use native.Mathlib.Decide.{decLt, ℕ-discrete}
+use mathlib.Core.Path.{_≡_, refl, sym, ap, _∙_, subst}
+use mathlib.Core.List.{List}
+use lib.ListN.{length, take, getD, replicate, length-replicate}
+use Rattle.grammar.specs.Words.{Grammar, R, layout, reads}
+use Rattle.grammar.proofs.LayoutExact.{in-bounds, reads-unique}
+use Rattle.packed.specs.File.{said, following, wordsIn}
+use Rattle.packed.specs.Promise.{NotVersionOne, BadLength, Unpacked}
+use Rattle.packed.specs.Promise.NotVersionOne.{empty, first-not-one}
+use Rattle.packed.specs.Promise.BadLength.{under-three, odd, above, not-following}
+use Rattle.packed.specs.Promise.Unpacked.{wrong-version, wrong-length, no-room-for-words, all-words}
+use Rattle.packed.specs.declared.FileAnswer.the-variants as file-answer
+use Rattle.packed.proofs.Main.{unpack-settles, passes-exactly}
+use Rattle.tables.specs.Table.{tableLength, IsTable}
+use Rattle.tables.specs.Promise.{Tables, row-4, row-5, row-6, row-7, row-3, done}
+use Rattle.tables.specs.declared.TableAnswer.{TableAnswer}
+use Rattle.tables.specs.declared.TableAnswer.the-variants as table-answer
+use Rattle.tables.proofs.Main.{tables-settles, tables-met, tables-done, tables-writes}
+use Rattle.handout.specs.Night.{Handout, Over}
+use Rattle.handout.proofs.Main.{night-ends}
+use Rattle.lines.specs.Lines.{refusedLine}
+use Rattle.suite.specs.Text.{suiteText, Unpacks, Accepts, Text, refused-file, refused-words, suite}
+use Rattle.suite.proofs.NightSettled.{night-settles}
+
+few-words : {file words : List ℕ} → Unpacks file words → length (wordsIn file) ≤ 8707
+few-words {file} u = passes-exactly file .0 (u .version, u .long) .most
+
+few-table-words : (words : List ℕ) {g : Grammar} → layout words ≡ reads g → tableLength g ≤ 896
+few-table-words words e = let ok = in-bounds words e in omega (arith, ok .nonterminals, ok .at-most-256)
+
+-- with room, a refusal is the same into any other buffer with room
+file-refused : {file before after : List ℕ} {k p : ℕ} → 8707 ≤ length before →
+    Unpacked file before (file-answer.Refused k p) after → (other : List ℕ) → 8707 ≤ length other →
+    Unpacked file other (file-answer.Refused k p) other
+file-refused room (wrong-version h) other l = wrong-version h
+file-refused room (wrong-length v h) other l = wrong-length v h
+file-refused {file} room (no-room-for-words v h k) other l = absurd (omega (arith, passes-exactly file .0 (v, h) .most))
+
+words-refused : {words before after : List ℕ} {k p : ℕ} → 896 ≤ length before →
+    Tables words before (table-answer.Refused k p) after → (other : List ℕ) → 896 ≤ length other →
+    Tables words other (table-answer.Refused k p) other
+words-refused room (row-4 e) other l = row-4 e
+words-refused room (row-5 e low) other l = row-5 e low
+words-refused room (row-6 e t low) other l = row-6 e t low
+words-refused room (row-7 e t u low) other l = row-7 e t u low
+words-refused {words} room (row-3 e t u f h) other l = absurd (omega (arith, few-table-words words e))
+
+line-same : {k p k′ p′ : ℕ} → k ≡ k′ → p ≡ p′ → refusedLine k p ≡ refusedLine k′ p′
+line-same e f = rw (e, f) refl
+
+words-words : {words words′ b a b′ a′ : List ℕ} {k p k′ p′ : ℕ} → words ≡ words′ → 896 ≤ length b →
+    Tables words b (table-answer.Refused k p) a → 896 ≤ length b′ → Tables words′ b′ (table-answer.Refused k′ p′) a′ →
+    refusedLine k p ≡ refusedLine k′ p′
+words-words {words} {b′ = b′} {k = k} {p = p} {k′ = k′} {p′ = p′} same room h room′ h′ =
+    let e = tables-settles words b′ (words-refused room h b′ room′) (rw (sym same) at h′) .0 in
+    let number : k ≡ k′ = cc in
+    let place : p ≡ p′ = cc in
+    line-same number place
+
+-- of one file
+module _ {file : List ℕ} where
+  file-file : {b a b′ a′ : List ℕ} {k p k′ p′ : ℕ} → 8707 ≤ length b → Unpacked file b (file-answer.Refused k p) a →
+      8707 ≤ length b′ → Unpacked file b′ (file-answer.Refused k′ p′) a′ → refusedLine k p ≡ refusedLine k′ p′
+  file-file {b′ = b′} {k = k} {p = p} {k′ = k′} {p′ = p′} room h room′ h′ =
+      let e = unpack-settles (file-refused room h b′ room′) h′ .0 in
+      let number : k ≡ k′ = cc in
+      let place : p ≡ p′ = cc in
+      line-same number place
+
+  file-words : {b a words : List ℕ} {k p : ℕ} → 8707 ≤ length b → Unpacked file b (file-answer.Refused k p) a →
+      Unpacks file words → ⊥
+  file-words room h u =
+      let e = unpack-settles h (all-words (u .version) (u .long) (omega (arith, few-words u))) .0 in
+      let z : _≡_ {A = ℕ} 0 1 = cc in
+      omega arith
+
+  words-same : {words words′ : List ℕ} → Unpacks file words → Unpacks file words′ → words ≡ words′
+  words-same u v = u .are ∙ sym (v .are)
+
+  words-suite : {words words′ table b a : List ℕ} {g : Grammar} {k p : ℕ} → words ≡ words′ → 896 ≤ length b →
+      Tables words b (table-answer.Refused k p) a → Accepts file words′ table g → ⊥
+  words-suite {words} {words′} {table} {b} {g = g} same room h s =
+      let a = s .accepted in
+      let fits = few-table-words words′ (s .grammar) in
+      let e =
+      tables-settles words′ b (rw same at h)
+      (done (s .grammar) (a .trees) (a .reached) (a .fit) (omega arith) (s .tabled)) .0 in
+      let z : _≡_ {A = ℕ} 0 1 = cc in
+      omega arith
+
+-- SETTLED
+pub text-settles : {file a b : List ℕ} → Text file a → Text file b → a ≡ b
+text-settles (refused-file room h) (refused-file room′ h′) = file-file room h room′ h′
+text-settles (refused-file room h) (refused-words u room′ h′) = absurd (file-words room h u)
+text-settles (refused-file room h) (suite s o) = absurd (file-words room h (s .unpacks))
+text-settles (refused-words u room h) (refused-file room′ h′) = absurd (file-words room′ h′ u)
+text-settles (refused-words u room h) (refused-words u′ room′ h′) = words-words (words-same u u′) room h room′ h′
+text-settles (refused-words u room h) (suite s o) = absurd (words-suite (words-same u (s .unpacks)) room h s)
+text-settles (suite s o) (refused-file room′ h′) = absurd (file-words room′ h′ (s .unpacks))
+text-settles (suite s o) (refused-words u room h) = absurd (words-suite (words-same u (s .unpacks)) room h s)
+text-settles (suite {words = words} {g = g} {hs = hs} s o) (suite {words = words′} {g = g′} {hs = hs′} s′ o′) =
+    let same : words ≡ words′ = words-same (s .unpacks) (s′ .unpacks) in
+    let grammars : g ≡ g′ = reads-unique words (s .grammar) (rw same (s′ .grammar)) in
+    let nights : hs ≡ hs′ = night-settles (s .grammar) o (rw (sym same) at o′) in
+    rw (grammars, nights) refl
+
+-- MET: each file has a text
+roomy : (n : ℕ) → (l : List ℕ) × (n ≤ length l)
+roomy n = (replicate n 0, omega (arith, length-replicate {A = ℕ} n 0))
+
+version? : (file : List ℕ) → Dec (NotVersionOne file)
+version? file = go (ℕ-discrete (getD file 0 0) 1) (ℕ-discrete (length file) 0)
+  where
+    go : Dec (getD file 0 0 ≡ 1) → Dec (length file ≡ 0) → Dec (NotVersionOne file)
+    go (no n) d = yes (first-not-one n)
+    go (yes v) (yes l) = yes (empty l)
+    go (yes v) (no l) = no neither
+      where
+        neither : NotVersionOne file → ⊥
+        neither (empty e) = l e
+        neither (first-not-one n) = n v
+
+bad-length? : (file : List ℕ) → Dec (BadLength file)
+bad-length? file =
+    go (decLt (length file) 3) (ℕ-discrete (said file % 2) 1) (decLt 17414 (said file))
+    (ℕ-discrete (said file) (length (following file)))
+  where
+    go : Dec (length file < 3) → Dec (said file % 2 ≡ 1) → Dec (17414 < said file) → Dec (said file ≡ length (following file)) →
+        Dec (BadLength file)
+    go (yes h) b c d = yes (under-three h)
+    go (no a) (yes h) c d = yes (odd h)
+    go (no a) (no b) (yes h) d = yes (above h)
+    go (no a) (no b) (no c) (no h) = yes (not-following h)
+    go (no a) (no b) (no c) (yes d) = no none
+      where
+        none : BadLength file → ⊥
+        none (under-three h) = a h
+        none (odd h) = b h
+        none (above h) = c h
+        none (not-following h) = h d
+
+with-night : {file words table : List ℕ} {g : Grammar} → Accepts file words table g →
+    (hs : List Handout) × Over words table hs → (out : List ℕ) × Text file out
+with-night {g = g} s (hs, o) = (suiteText g hs, suite s o)
+
+module _ {file words : List ℕ} (u : Unpacks file words) where
+  with-table : {before after : List ℕ} {n : ℕ} → Tables words before (table-answer.Done n) after → (out : List ℕ) × Text file out
+  with-table {after = after} {n = n} h =
+      let (g, e, (accepted, long, room)) = tables-done h n .0 refl in
+      let (k, read, written) = tables-writes h n refl in
+      let same : k ≡ g = reads-unique words read e in
+      let tabled = rw same at (written .table) in
+      let (buffer, enough) = roomy 4096 in
+      with-night (record { unpacks = u; grammar = e; accepted = accepted; tabled = tabled })
+      (night-ends words after e accepted tabled buffer buffer enough enough)
+
+  of-words : (out : List ℕ) × Text file out
+  of-words = let (before, room) = roomy 896 in go room (tables-met words before)
+    where
+      go : {before : List ℕ} → 896 ≤ length before → (a : TableAnswer) × (after : List ℕ) × Tables words before a after →
+          (out : List ℕ) × Text file out
+      go room (table-answer.Refused k p, after, h) = (refusedLine k p, refused-words u room h)
+      go room (table-answer.Done n, after, h) = with-table h
+
+by-file : {file : List ℕ} {k p : ℕ} → (before : List ℕ) × (8707 ≤ length before) →
+    ((before : List ℕ) → Unpacked file before (file-answer.Refused k p) before) → (out : List ℕ) × Text file out
+by-file {k = k} {p = p} (before, room) h = (refusedLine k p, refused-file room (h before))
+
+pub text-met : (file : List ℕ) → (out : List ℕ) × Text file out
+text-met file = go (version? file) (bad-length? file)
+  where
+    go : Dec (NotVersionOne file) → Dec (BadLength file) → (out : List ℕ) × Text file out
+    go (yes v) d = by-file (roomy 8707) (λ before. wrong-version v)
+    go (no v) (yes l) = by-file (roomy 8707) (λ before. wrong-length v l)
+    go (no v) (no l) = of-words (record { version = v; long = l; are = refl })
