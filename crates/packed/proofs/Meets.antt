@@ -1,5 +1,5 @@
--- No input falls between the rows of a promise: each row can be decided, so that there is an answer and a buffer afterwards that the
--- promise allows. Assumes nothing.
+-- No input falls between the rows of a promise: each row can be decided, so that there is an answer and a buffer afterwards that
+-- the promise allows. Assumes nothing.
 use mathlib.Core.Path.{_≡_}
 use mathlib.Core.List.{List}
 use Prim.Native.Nat.{ℕ, _%_, _<_}

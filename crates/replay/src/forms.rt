@@ -1,5 +1,6 @@
 // What is left of a form while it is opened from the left: of the right side that is read, where the next symbol is and how many
-// are left; the rests of others wait on a stack, two words each, and a rest of nothing does not wait. Which rule opens a symbol is `derivation`'s.
+// are left; the rests of others wait on a stack, two words each, and a rest of nothing does not wait. By which rule a symbol is
+// opened is for `derivation` to say.
 ghost use mathlib.Core.Path.{_≡_};
 ghost use Prim.Native.Nat.{_+_, _*_, _-_, _≤_, _<_};
 ghost use lib.ListN.{length};

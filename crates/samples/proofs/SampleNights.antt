@@ -35,7 +35,8 @@ module _ (words table : List ℕ) {g : Grammar} (e : layout words ≡ reads g) (
   all-used c m k l zero-mark = omega (arith, m .sets k (omega (arith, c .enough)) (uses-all k l) (c .clear k l))
 
   -- the marks that a call with this target leaves, whatever its buffers
-  marks-left : (rest marks : List ℕ) → Wanted words (table ++ rest) marks g 0 t → (marked : List ℕ) × Marked (derivation t) marks marked
+  marks-left : (rest marks : List ℕ) → Wanted words (table ++ rest) marks g 0 t →
+      (marked : List ℕ) × Marked (derivation t) marks marked
   marks-left rest marks wanted =
       let n = length (sentence t) in
       let m = length (derivation t) in
