@@ -1,23 +1,26 @@
 -- What each step of the lister needs and leaves: where a rule stands, a token, a rule's number, one more of some symbols, a
 -- nonterminal by its chosen rule. Assumes nothing.
-use Prim.Native.Nat.{ℕ, _+_, _*_, _≤_, _<_}
+use Prim.Native.Nat.{ℕ, _+_, _*_, _-_, _≤_, _<_}
 use native.Mathlib.Nat.{add-zero}
 use native.Mathlib.Numerals.{add-one}
 use native.Mathlib.Omega.{arith}
 use mathlib.Core.List.{List, [], _∷_, _++_}
 use mathlib.Core.Path.{_≡_, refl, ap, sym, _∙_}
-use lib.ListN.{length, getD, set, take, length-take}
+use lib.ListN.{length, getD, set, take, drop, length-take}
 use lib.Seq.{length-sets, take-suc, take-all}
 use Rattle.grammar.specs.Words.{Grammar, R}
+use Rattle.grammar.specs.Walk.{countAt}
+use Rattle.grammar.specs.Rules.{rightAt}
 use Rattle.grammar.specs.Tree.{node, nil}
 use Rattle.grammar.proofs.LayoutExact.{in-bounds}
 use Rattle.grammar.proofs.RulePlaces as places
 use Rattle.grammar.proofs.RuleNumbers.{rule-number}
+use Rattle.grammar.proofs.RulesByNumber.{right-whole}
 use Rattle.grammar.proofs.RulesInView.{viewed-rule}
 use Rattle.grammar.proofs.WordsFew.{words-few}
 use Rattle.tables.specs.Table.{entry, tableLength}
 use Rattle.handout.specs.declared.lister.Lengths.{Lengths}
-use Rattle.handout.specs.Listing.{Known, sizeBy, sizesBy, rightOf, SymbolReady, RuleReady, SymbolsReady, of-terminal}
+use Rattle.handout.specs.Listing.{Known, sizeBy, sizesBy, rightOf, Stands, SymbolReady, RuleReady, SymbolsReady, of-terminal}
 use Rattle.handout.specs.Listing.{of-nonterminal, SymbolsListed, RuleListed, Wrote, Listed, Written, SymbolWritten, RuleWritten}
 use Rattle.handout.specs.Listing.{SymbolsWritten}
 use Rattle.handout.proofs.Listings.{and-then, nothing, one-more, sizes-more, sizes-within, terminal-size, ChosenRule}
@@ -42,10 +45,17 @@ module _ {words starts table : List ℕ} {n : ℕ} {g : Grammar} (known : Known 
         at ≡ getD starts k 0
     index-is e r = r .0 (omega (arith, e, number-low known h)) ∙ ap (λ (m : ℕ). getD starts m 0) e
 
-    pub stands-within : getD starts k 0 < length words
-    stands-within =
+    pub rule-stands : Stands words starts k
+    rule-stands =
         let (A, w, r) = viewed-rule (known .view) k h in
-        omega (arith, known .view .begin k h, places.rule-within words g (known .view .is) k A w (r .stands))
+        let begin = known .view .begin k h in
+        let count = places.count-stands words g (known .view .is) k A w (r .stands) in
+        let same = ap (λ (p : ℕ). countAt words p) begin in
+        record {
+          number = number-low known h;
+          few = few-words;
+          whole = omega (arith, begin, same, count, places.rule-within words g (known .view .is) k A w (r .stands));
+        }
 
   pub nonterminal-low : (A : ℕ) → A < n → A < 128
   nonterminal-low A h = omega (arith, known .view .nonterminals, in-bounds words (known .view .is) .nonterminals)
@@ -53,6 +63,13 @@ module _ {words starts table : List ℕ} {n : ℕ} {g : Grammar} (known : Known 
   pub table-long : (A j : ℕ) → A < n → j < 5 → 5 * A + j < length table
   table-long A j h k =
       omega (arith, known .tabled .long, length-take (tableLength g) table, known .view .nonterminals)
+
+-- the part of the words that is read for a rule is its right side
+pub right-read : {words starts : List ℕ} {k at count : ℕ} → Stands words starts k → at ≡ getD starts k 0 → count ≡ countAt words at →
+    take ((at + 2 + count) - (at + 2)) (drop (at + 2) words) ≡ rightOf words starts k
+right-read {words} {starts} {k} {at} {count} stands e f =
+    let same : (at + 2 + count) - (at + 2) ≡ countAt words at = omega (arith, f) in
+    rw same (sym (right-whole words at (rw e (stands .whole))) ∙ ap (λ (j : ℕ). rightAt words j) e)
 
 -- what a loop over the symbols w keeps: the first i of them are listed
 pub record Turn (words starts table : List ℕ) (n : ℕ) (w tokens tokens′ rules rules′ : List ℕ) (past so : Lengths) (i : ℕ) :

@@ -10,6 +10,7 @@ use lib.ListN.{length, getD}
 use lib.Seq.{sets}
 use Rattle.grammar.specs.Words.{Grammar, R}
 use Rattle.grammar.specs.Rules.{rightAt}
+use Rattle.grammar.specs.Walk.{countAt}
 use Rattle.grammar.specs.Tree.{Tree, Forest, sentence, sentences, derivation, derivations}
 use Rattle.grammar.specs.Measure.{plain}
 use Rattle.grammar.specs.Least.{ChosenTree, ChosenForest}
@@ -34,6 +35,12 @@ sizesBy n table (s ∷ w) = sizeBy n table s + sizesBy n table w
 -- the right side of rule k
 abbrev pub rightOf : List ℕ → List ℕ → ℕ → List ℕ
 rightOf words starts k = rightAt words (getD starts k 0)
+
+-- where the starts say, a rule stands whole in the words
+pub record Stands (words starts : List ℕ) (k : ℕ) : Type 0 where
+  pub number : k < 256
+  pub few : length words ≤ 8707
+  pub whole : getD starts k 0 + 2 + countAt words (getD starts k 0) ≤ length words
 
 -- a symbol, a rule, or some symbols can be listed: the lengths so far and the size of what is to come are few enough to count
 pub record SymbolReady (words starts table : List ℕ) (n s : ℕ) (past : Lengths) : Type 0 where

@@ -36,7 +36,6 @@ pub fn next(
         (record { marks = now (marks .exit); tokens = now (sentence .exit); rules = now (derivation .exit) }) ⌝ }
 {
     let testing = tables::test(words, table);
-    let starts = testing.starts;
     let answer = testing.answer;
     match answer {
         TableTest::Refused { number, place } => NextAnswer::Refused { number, place },
@@ -46,7 +45,7 @@ pub fn next(
         },
         TableTest::Its { rules } => handed::with_table(
             words,
-            &starts,
+            &testing.starts,
             rules,
             table,
             marks,

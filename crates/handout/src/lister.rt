@@ -2,12 +2,10 @@
 // calls that for a rule, which calls back for each symbol, on falling sizes: the size of a nonterminal is 1 plus those of its chosen
 // rule's symbols.
 ghost use mathlib.Core.Path.{_≡_};
-ghost use Prim.Native.Nat.{_<_};
-ghost use Rattle.handout.specs.Listing.{rightOf, SymbolReady, RuleReady, SymbolsReady, SymbolWritten, RuleWritten};
-ghost use Rattle.handout.specs.Listing.{SymbolsWritten};
+ghost use Rattle.handout.specs.Listing.{rightOf, Stands, SymbolReady, RuleReady, SymbolsReady};
+ghost use Rattle.handout.specs.Listing.{SymbolWritten, RuleWritten, SymbolsWritten};
 use cells::put;
 use cells::wide;
-use grammar::rules;
 
 // How many rule numbers and how many tokens are listed so far, whether or not there was room for them. An answer has them the other
 // way round: in its order the compiler would copy both at once, and the copy wait until both are stored.
@@ -18,10 +16,13 @@ pub struct Lengths {
 
 // The symbols of the rule of a number.
 pub fn right_of<'a>(words: &'a [u16], starts: &[u16; 256], rule: u16) -> &'a [u16]
-    requires { ⌜ rule < 256 ⌝ }
+    requires { ⌜ Stands (now words) (now starts) rule ⌝ }
     ensures { λ r. ⌜ now r ≡ rightOf (now (words .entry)) (now (starts .entry)) rule ⌝ }
 {
-    rules::right(words, rules::index(starts, wide(rule)))
+    let at = wide(starts[wide(rule)]);
+    let first = at + 2;
+    let end = first + wide(words[at + 1]);
+    &words[first..end]
 }
 
 // Lists the symbol s: a terminal as itself, a nonterminal as its chosen rule.

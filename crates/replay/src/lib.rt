@@ -19,7 +19,6 @@ pub fn replay(words: &[u16], list: &[u16], sentence: &mut [u16]) -> ReplayAnswer
     ensures { λ r. ⌜ Replay (now (words .entry)) (now (list .entry)) (now (sentence .entry)) r (now (sentence .exit)) ⌝ }
 {
     let reading = layout::read(words);
-    let starts = reading.starts;
     let answer = reading.answer;
     match answer {
         LayoutAnswer::Fault { place } => ReplayAnswer::Refused {
@@ -31,6 +30,6 @@ pub fn replay(words: &[u16], list: &[u16], sentence: &mut [u16]) -> ReplayAnswer
             terminals: _,
             start: _,
             rules,
-        } => rows::of_grammar(words, &starts, nonterminals, rules, list, sentence),
+        } => rows::of_grammar(words, &reading.starts, nonterminals, rules, list, sentence),
     }
 }

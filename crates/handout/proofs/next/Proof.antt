@@ -18,14 +18,14 @@ enum-known-answer-2 c = search needs
 
 with-table-requires : tie.Need-with-table-requires
 with-table-requires c κs =
-    own-table (c .before .before .before .before .before .before .before .before .test .ensures) (c .before .before .before .before .before .answer2 .given .1)
+    own-table (c .before .before .before .before .before .before .before .before .test .ensures) (c .before .before .before .before .before .before .answer2 .given .1)
 
 returns : tie.Need-returns
 returns c =
-    refuses-tested _ (c .before .before .before .before .test .ensures .tested) (c .before .answer .given .1)
+    refuses-tested _ (c .before .before .before .test .ensures .tested) (c .before .answer .given .1)
 
 returns-2 : tie.Need-returns-2
-returns-2 c = refuses-8 _ (c .before .before .before .test .ensures .tested) (c .enum-told .given .1)
+returns-2 c = refuses-8 _ (c .before .before .test .ensures .tested) (c .enum-told .given .1)
 
 same-length : tie.Need-same-length
 same-length c = search needs

@@ -10,8 +10,8 @@ use borrow.Fn.Kinds.{In}
 use borrow.Fn.PlainCycle.{Measures, is, falls, and}
 use Rattle.tables.specs.Table.{entry}
 use Rattle.handout.specs.Listing.{sizeBy, sizesBy, rightOf}
-use Rattle.handout.proofs.Listings.{terminal-size, number-low}
-use Rattle.handout.proofs.ListerSteps.{table-long, Turn, tokens-kept, rules-kept, turns-begin, turn-goes-on, token-listed}
+use Rattle.handout.proofs.Listings.{terminal-size}
+use Rattle.handout.proofs.ListerSteps.{rule-stands, table-long, Turn, tokens-kept, rules-kept, turns-begin, turn-goes-on, token-listed}
 use Rattle.handout.proofs.ListerSteps.{symbol-ready, symbol-smaller, rule-listed, rule-ready, rule-smaller, chosen-listed}
 use Rattle.cells.proofs.put.Reads as put
 use Rattle.cells.proofs.wide.Reads as wide
@@ -64,7 +64,7 @@ rule-put-requires t c κs = search needs
 rule-right-of-requires : (t : ℕ) → rule-lts.Need-right-of-requires (rule-calls t) (rule-at t) rule.Post Inv-loop μ-loop
 rule-right-of-requires t c κs =
     let ready = c .before .before .before .before .before .before .before .before .pre .1 in
-    number-low (ready .known) (ready .number)
+    rule-stands (ready .known) (ready .number)
 
 rule-add-t15 : (t : ℕ) → rule-lts.Need-add-t15 (rule-calls t) (rule-at t) rule.Post Inv-loop μ-loop
 rule-add-t15 t c =

@@ -6,7 +6,7 @@ use mathlib.Core.Path.{_≡_, refl, ap, _∙_}
 use Prim.Native.Nat.{ℕ}
 use lib.ListN.{length, getD}
 use Rattle.tables.specs.Table.{entry}
-use Rattle.handout.proofs.ListerSteps.{few-words, nonterminal-low, table-long, index-is, stands-within}
+use Rattle.handout.proofs.ListerSteps.{few-words, nonterminal-low, table-long, index-is, rule-stands}
 use Rattle.handout.proofs.PathSteps.{OnWay, way-begins, way-on, way-ends, way-low, way-number, way-falls, way-short}
 use Rattle.handout.proofs.tree_lister.climb.Statement.{statement}
 use Rattle.handout.proofs.tree_lister.climb.Tie as tie
@@ -70,14 +70,14 @@ mul-wide-3 c =
     let ready = c .before .before .before .before .before .before .before .before .before .pre in
     let number = way-number (c .before .before .before .before .before .loop .inv .1) ready (c .before .before .before .before .loop-test .taken) in
     let at = index-is (ready .known) number (c .before .wide .ensures) (c .index .ensures) in
-    omega (arith, at, stands-within (ready .known) number, few-words (ready .known))
+    omega (arith, at, rule-stands (ready .known) number .whole, few-words (ready .known))
 
 shared-slice-read-wide-2 : tie.Need-shared-slice-read-wide-2 Inv-loop μ-loop
 shared-slice-read-wide-2 c =
     let ready = c .before .before .before .before .before .before .before .before .before .before .pre in
     let number = way-number (c .before .before .before .before .before .before .loop .inv .1) ready (c .before .before .before .before .before .loop-test .taken) in
     let at = index-is (ready .known) number (c .before .before .wide .ensures) (c .before .index .ensures) in
-    omega (arith, at, stands-within (ready .known) number)
+    omega (arith, at, rule-stands (ready .known) number .whole)
 
 wide-requires-2 : tie.Need-wide-requires-2 Inv-loop μ-loop
 wide-requires-2 c κs = search needs

@@ -1,8 +1,7 @@
 -- `handout::tree_lister::list_back` meets its contract: the symbols after the place. Assumes nothing.
 use borrow.Author.Needs.{needs}
 use native.Mathlib.Omega.{arith}
-use Rattle.handout.proofs.Listings.{number-low}
-use Rattle.handout.proofs.ListerSteps.{nonterminal-low, table-long}
+use Rattle.handout.proofs.ListerSteps.{rule-stands, nonterminal-low, table-long}
 use Rattle.handout.proofs.BesideSteps.{back-within, back-listable, back-written}
 use Rattle.handout.proofs.tree_lister.list_back.Statement.{statement}
 use Rattle.handout.proofs.tree_lister.list_back.Tie as tie
@@ -30,7 +29,7 @@ shared-slice-read-right-of c =
 right-of-requires : tie.Need-right-of-requires
 right-of-requires c κs =
     let ready = c .before .before .before .before .before .pre in
-    number-low (ready .beside .known) (ready .beside .number)
+    rule-stands (ready .beside .known) (ready .beside .number)
 
 mul-wide : tie.Need-mul-wide
 mul-wide c =

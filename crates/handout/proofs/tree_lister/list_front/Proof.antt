@@ -3,8 +3,7 @@ use borrow.Author.Needs.{needs}
 use native.Mathlib.Omega.{arith}
 use mathlib.Core.Path.{sym}
 use lib.Seq.{length-take-le}
-use Rattle.handout.proofs.Listings.{number-low}
-use Rattle.handout.proofs.ListerSteps.{nonterminal-low, table-long}
+use Rattle.handout.proofs.ListerSteps.{rule-stands, nonterminal-low, table-long}
 use Rattle.handout.proofs.BesideSteps.{front-within, front-listable, front-written}
 use Rattle.handout.proofs.tree_lister.list_front.Statement.{statement}
 use Rattle.handout.proofs.tree_lister.list_front.Tie as tie
@@ -62,7 +61,7 @@ add-t13 c =
 right-of-requires : tie.Need-right-of-requires
 right-of-requires c κs =
     let ready = c .before .before .before .before .before .before .before .before .before .before .before .before .pre in
-    number-low (ready .beside .known) (ready .beside .number)
+    rule-stands (ready .beside .known) (ready .beside .number)
 
 slice-aggregate-list-symbols : tie.Need-slice-aggregate-list-symbols
 slice-aggregate-list-symbols c =

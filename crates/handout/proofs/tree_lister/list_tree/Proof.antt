@@ -5,7 +5,7 @@ use mathlib.Core.Path.{refl, ap, _∙_}
 use Prim.Native.Nat.{ℕ}
 use lib.ListN.{getD}
 use Rattle.handout.proofs.Listings.{number-low}
-use Rattle.handout.proofs.ListerSteps.{few-words, index-is, stands-within}
+use Rattle.handout.proofs.ListerSteps.{few-words, index-is, rule-stands}
 use Rattle.handout.proofs.TreeWrites.{climb-ready, way-before, target-ready, way-after, tree-of-written}
 use Rattle.handout.proofs.tree_lister.list_tree.Statement.{statement}
 use Rattle.handout.proofs.tree_lister.list_tree.Tie as tie
@@ -17,13 +17,13 @@ mul-wide : tie.Need-mul-wide
 mul-wide c =
     let ready = c .before .before .before .before .before .pre in
     let at = index-is (ready .known) (ready .number) refl (c .index .ensures) in
-    omega (arith, at, stands-within (ready .known) (ready .number), few-words (ready .known))
+    omega (arith, at, rule-stands (ready .known) (ready .number) .whole, few-words (ready .known))
 
 shared-slice-read-wide : tie.Need-shared-slice-read-wide
 shared-slice-read-wide c =
     let ready = c .before .before .before .before .before .before .pre in
     let at = index-is (ready .known) (ready .number) refl (c .before .index .ensures) in
-    omega (arith, at, stands-within (ready .known) (ready .number))
+    omega (arith, at, rule-stands (ready .known) (ready .number) .whole)
 
 wide-requires : tie.Need-wide-requires
 wide-requires c κs = search needs
