@@ -55,8 +55,12 @@ pub fn read(words: &[u16]) -> Reading
     ensures { λ r. ⌜ r .starts ≡ startsOf (layout (now (words .entry))) ⌝ }
 {
     match judge_head(words) {
-        Part::Fault(place) => fault(place),
-        Part::Fit(at) => read_after_head(words, at),
+        Part::Fault(place) => {
+            return fault(place);
+        }
+        Part::Fit(at) => {
+            return read_after_head(words, at);
+        }
     }
 }
 
@@ -108,16 +112,20 @@ fn read_after_head(words: &[u16], at: usize) -> Reading
     let start = word(words, 2);
     let mut starts = [0u16; 256];
     match judge_rules(words, nonterminals, terminals, at, &mut starts) {
-        Part::Fault(place) => fault(place),
-        Part::Fit(rules) => Reading {
-            answer: LayoutAnswer::Grammar {
-                nonterminals,
-                terminals,
-                start,
-                rules,
-            },
-            starts,
-        },
+        Part::Fault(place) => {
+            return fault(place);
+        }
+        Part::Fit(rules) => {
+            return Reading {
+                answer: LayoutAnswer::Grammar {
+                    nonterminals,
+                    terminals,
+                    start,
+                    rules,
+                },
+                starts,
+            };
+        }
     }
 }
 

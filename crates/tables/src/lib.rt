@@ -42,7 +42,6 @@ pub fn tables(words: &[u16], table: &mut [u16]) -> TableAnswer
     ensures { λ r. ⌜ Tables (now (words .entry)) (now (table .entry)) r (now (table .exit)) ⌝ }
 {
     let reading = layout::read(words);
-    let starts = reading.starts;
     let answer = reading.answer;
     match answer {
         LayoutAnswer::Fault { place } => TableAnswer::Refused {
@@ -54,7 +53,7 @@ pub fn tables(words: &[u16], table: &mut [u16]) -> TableAnswer
             terminals: _,
             start,
             rules,
-        } => worked_out::of_grammar(words, &starts, nonterminals, start, rules, table),
+        } => worked_out::of_grammar(words, &reading.starts, nonterminals, start, rules, table),
     }
 }
 
@@ -63,25 +62,27 @@ pub fn test(words: &[u16], table: &[u16]) -> Testing
     ensures { λ r. ⌜ TestPromise (now (words .entry)) (now (table .entry)) r ⌝ }
 {
     let reading = layout::read(words);
-    let starts = reading.starts;
     let answer = reading.answer;
     match answer {
-        LayoutAnswer::Fault { place } => Testing {
-            answer: TableTest::Refused {
-                number: answers::BROKEN_LAYOUT,
-                place,
-            },
-            starts: [0u16; 256],
-        },
+        LayoutAnswer::Fault { place } => {
+            return Testing {
+                answer: TableTest::Refused {
+                    number: answers::BROKEN_LAYOUT,
+                    place,
+                },
+                starts: [0u16; 256],
+            };
+        }
         LayoutAnswer::Grammar {
             nonterminals,
             terminals: _,
             start,
             rules,
-        } => with_starts(
-            test_grammar(words, &starts, nonterminals, start, rules, table),
-            starts,
-        ),
+        } => {
+            let tested = test_grammar(words, &reading.starts, nonterminals, start, rules, table);
+            let starts = reading.starts;
+            return with_starts(tested, starts);
+        }
     }
 }
 
@@ -89,18 +90,27 @@ pub fn test(words: &[u16], table: &[u16]) -> Testing
 fn with_starts(answer: TableTest, starts: [u16; 256]) -> Testing
     ensures { λ r. ⌜ (r .answer ≡ answer) × (r .starts ≡ startsWith answer starts) ⌝ }
 {
-    let stand = match answer {
-        TableTest::Its { rules: _ } => starts,
-        TableTest::NotIts => [0u16; 256],
+    match answer {
+        TableTest::Its { rules: _ } => {
+            return beside(answer, starts);
+        }
+        TableTest::NotIts => {
+            return beside(TableTest::NotIts, [0u16; 256]);
+        }
         TableTest::Refused {
             number: _,
             place: _,
-        } => [0u16; 256],
-    };
-    Testing {
-        answer,
-        starts: stand,
+        } => {
+            return beside(answer, [0u16; 256]);
+        }
     }
+}
+
+// The two, whatever they are.
+fn beside(answer: TableTest, starts: [u16; 256]) -> Testing
+    ensures { λ r. ⌜ (r .answer ≡ answer) × (r .starts ≡ starts) ⌝ }
+{
+    Testing { answer, starts }
 }
 
 // The answer of words that are a grammar. Only where the table is not its own is one worked out, for 5, 6 and 7, and with no room to

@@ -20,21 +20,21 @@ enum-known-answer-2 c = search needs
 test-grammar-requires : tie.Need-test-grammar-requires
 test-grammar-requires c κs =
     let read = c .before .before .before .before .before .read in
-    begun-of _ (read .ensures .0) (read .ensures .1) (c .before .before .answer2 .given .1)
+    begun-of _ (read .ensures .0) (read .ensures .1) (c .before .before .before .answer2 .given .1)
 
 with-starts-requires : tie.Need-with-starts-requires
 with-starts-requires c κs = search needs
 
 returns : tie.Need-returns
 returns c =
-    let read = c .before .before .before .before .read in
+    let read = c .before .before .before .read in
     record { tested = test-4 (broken-of _ (read .ensures .0) (c .before .answer .given .1)); stand = refl }
 
 returns-2 : tie.Need-returns-2
 returns-2 c =
-    let read = c .before .before .before .before .before .before .before .read in
+    let read = c .before .before .before .before .before .before .before .before .read in
     let w = c .with-starts .ensures in
-    with-places (c .before .test-grammar .ensures) (read .ensures .1) (w .0) (w .1)
+    with-places (c .before .before .test-grammar .ensures) (read .ensures .1) (w .0) (w .1)
 
 pub test-spec : {M : Type 1} → statement M
 test-spec =
@@ -42,8 +42,8 @@ test-spec =
     (tie.spec
     read-requires
     enum-known-answer
+    returns
     enum-known-answer-2
     test-grammar-requires
     with-starts-requires
-    returns
     returns-2)

@@ -43,7 +43,7 @@ read-spec =
     judge-head-requires
     enum-known-place
     fault-requires
+    returns
     enum-known-at
     read-after-head-requires
-    returns
     returns-2)

@@ -67,6 +67,6 @@ read-after-head-spec =
     judge-rules-requires
     enum-known-place
     fault-requires
-    enum-known-rules
     returns
+    enum-known-rules
     returns-2)
