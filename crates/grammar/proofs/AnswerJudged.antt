@@ -34,16 +34,16 @@ module _ (ws : List ℕ) (at N T S : ℕ) (h : Head ws at) (n : N ≡ getD ws 0 
   pub rules-faulted : (r : Part) (p : ℕ) → Tabled ws N T at r → r ≡ part.Fault p → answer.Fault p ≡ answerOf (layout ws)
   rules-faulted r p h e = after-head (faults p) (rw e at h)
 
--- and where the rules stand is noted
-pub rules-noted : (ws after : List ℕ) (N T S : ℕ) (r : Part) (k : ℕ) → Noted ws noStarts r after → r ≡ part.Fit k →
-    answer.Grammar N T S k ≡ answerOf (layout ws) → after ≡ startsOf (layout ws)
-rules-noted ws after N T S r k h e a = go (layout ws) refl a
+-- and where the rules stand is noted, in an array of 0
+pub rules-noted : (ws before after : List ℕ) (N T S : ℕ) (r : Part) (k : ℕ) → Noted ws before r after → before ≡ noStarts →
+    r ≡ part.Fit k → answer.Grammar N T S k ≡ answerOf (layout ws) → after ≡ startsOf (layout ws)
+rules-noted ws before after N T S r k h clear e a = go (layout ws) refl a
   where
-    found : Noted ws noStarts (part.Fit k) after
+    found : Noted ws before (part.Fit k) after
     found = rw e at h
 
     go : (j : Judged Grammar) → layout ws ≡ j → answer.Grammar N T S k ≡ answerOf j → after ≡ startsOf j
-    go (reads g) is a = found ∙ ap (λ (x : List ℕ). over x noStarts) (starts-are-places ws g is)
+    go (reads g) is a = found ∙ ap (λ (x : List ℕ). over x before) (starts-are-places ws g is) ∙ ap (over _) clear
     go (faults p) is a = absurd (let z : _≡_ {A = ℕ} 0 1 = cc in omega arith)
 
 -- of a fault there is nothing to note

@@ -54,24 +54,30 @@ pub fn read(words: &[u16]) -> Reading
     ensures { λ r. ⌜ r .answer ≡ answerOf (layout (now (words .entry))) ⌝ }
     ensures { λ r. ⌜ r .starts ≡ startsOf (layout (now (words .entry))) ⌝ }
 {
+    let mut starts = [0u16; 256];
+    let answer = note(words, &mut starts);
+    Reading { answer, starts }
+}
+
+// What words are, and where the rules of a grammar stand into an array of 0.
+fn note(words: &[u16], starts: &mut [u16; 256]) -> LayoutAnswer
+    requires { ⌜ now starts ≡ noStarts ⌝ }
+    ensures { λ r. ⌜ r ≡ answerOf (layout (now (words .entry))) ⌝ }
+    ensures { λ _. ⌜ now (starts .exit) ≡ startsOf (layout (now (words .entry))) ⌝ }
+{
     match judge_head(words) {
-        Part::Fault(place) => {
-            return fault(place);
-        }
-        Part::Fit(at) => {
-            return read_after_head(words, at);
-        }
+        Part::Fault(place) => fault(place, starts),
+        Part::Fit(at) => note_after_head(words, at, starts),
     }
 }
 
 // No grammar.
-fn fault(place: usize) -> Reading
-    ensures { λ r. ⌜ (r .answer ≡ LayoutAnswer.Fault place) × (r .starts ≡ noStarts) ⌝ }
+fn fault(place: usize, starts: &mut [u16; 256]) -> LayoutAnswer
+    ensures { λ r. ⌜ r ≡ LayoutAnswer.Fault place ⌝ }
+    ensures { λ _. ⌜ now (starts .exit) ≡ noStarts ⌝ }
 {
-    Reading {
-        answer: LayoutAnswer::Fault { place },
-        starts: [0u16; 256],
-    }
+    *starts = [0u16; 256];
+    LayoutAnswer::Fault { place }
 }
 
 // N, T and the start. Fit carries the index past them.
@@ -102,30 +108,23 @@ fn judge_head(words: &[u16]) -> Part
 }
 
 // The rules of words whose head is fit.
-fn read_after_head(words: &[u16], at: usize) -> Reading
+fn note_after_head(words: &[u16], at: usize, starts: &mut [u16; 256]) -> LayoutAnswer
     requires { ⌜ Head (now words) at ⌝ }
-    ensures { λ r. ⌜ r .answer ≡ answerOf (layout (now (words .entry))) ⌝ }
-    ensures { λ r. ⌜ r .starts ≡ startsOf (layout (now (words .entry))) ⌝ }
+    requires { ⌜ now starts ≡ noStarts ⌝ }
+    ensures { λ r. ⌜ r ≡ answerOf (layout (now (words .entry))) ⌝ }
+    ensures { λ _. ⌜ now (starts .exit) ≡ startsOf (layout (now (words .entry))) ⌝ }
 {
     let nonterminals = word(words, 0);
     let terminals = word(words, 1);
     let start = word(words, 2);
-    let mut starts = [0u16; 256];
-    match judge_rules(words, nonterminals, terminals, at, &mut starts) {
-        Part::Fault(place) => {
-            return fault(place);
-        }
-        Part::Fit(rules) => {
-            return Reading {
-                answer: LayoutAnswer::Grammar {
-                    nonterminals,
-                    terminals,
-                    start,
-                    rules,
-                },
-                starts,
-            };
-        }
+    match judge_rules(words, nonterminals, terminals, at, starts) {
+        Part::Fault(place) => fault(place, starts),
+        Part::Fit(rules) => LayoutAnswer::Grammar {
+            nonterminals,
+            terminals,
+            start,
+            rules,
+        },
     }
 }
 
