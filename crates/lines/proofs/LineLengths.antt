@@ -2,16 +2,11 @@
 -- 01: "In the suite no sentence and its derivation together exceed 4,096 numbers." Assumes nothing.
 use Prim.Native.Nat.{ℕ, suc, _+_, _*_, _≤_, _<_}
 use native.Mathlib.Omega.{arith}
-use mathlib.Core.Path.{_≡_}
 use mathlib.Core.List.{List, [], _∷_, _++_}
-use lib.ListN.{length, getD, length-append}
+use lib.ListN.{length, length-append}
 use Rattle.lines.specs.Digits.{decimal}
-use Rattle.lines.specs.Lines.{space, lineEnd, spaced, sentenceLine}
+use Rattle.lines.specs.Lines.{space, lineEnd, spaced, suiteLine, sentenceLine, endLine, refusedLine, Words, mostLine}
 use Rattle.lines.proofs.DigitsOfNumbers.{decimal-few}
-
--- every number of the list is a 16-bit word
-abbrev pub Words : List ℕ → Type 0
-Words l = (i : ℕ) → getD l i 0 < 65536
 
 five : (n : ℕ) → n < 65536 → length (decimal n) ≤ 5
 five n h = decimal-few 4 n (omega arith)
@@ -31,9 +26,9 @@ counted-few l h few =
     let rest = spaced-few l h in
     omega (arith, length-append (space ∷ decimal (length l)) (spaced l))
 
--- LENGTH: a buffer with room for 24,594 octets has room for a sentence's line
+-- LENGTH: a buffer with room for 24,594 octets has room for a sentence's line, and for each of the others
 pub sentence-few : (target : ℕ) (tokens rules : List ℕ) → target < 65536 → Words tokens → Words rules →
-    length tokens + length rules ≤ 4096 → length (sentenceLine target tokens rules) ≤ 24594
+    length tokens + length rules ≤ 4096 → length (sentenceLine target tokens rules) ≤ mostLine
 unfolding sentenceLine
 sentence-few target tokens rules t u v few =
     let a = decimal target in
@@ -43,3 +38,23 @@ sentence-few target tokens rules t u v few =
     let lb = counted-few tokens u (omega arith) in
     let lc = counted-few rules v (omega arith) in
     omega (arith, length-append a b, length-append (a ++ b) c, length-append (a ++ b ++ c) (lineEnd ∷ []))
+
+pub suite-few : (N T R : ℕ) → N < 65536 → T < 65536 → R < 65536 → length (suiteLine N T R) ≤ mostLine
+unfolding suiteLine spaced
+suite-few N T R h k l =
+    let a = five N h in
+    let b = five T k in
+    let c = five R l in
+    simp length-append (omega arith)
+
+pub end-few : (count : ℕ) → count < 65536 → length (endLine count) ≤ mostLine
+unfolding endLine spaced
+end-few count h = let few = five count h in simp length-append (omega arith)
+
+pub refused-few : (number place : ℕ) → number < 65536 → place < 18446744073709551616 →
+    length (refusedLine number place) ≤ mostLine
+unfolding refusedLine spaced
+refused-few number place h k =
+    let a = five number h in
+    let b = decimal-few 19 place (omega arith) in
+    simp length-append (omega arith)

@@ -3,9 +3,9 @@
 --    sentence count. A refused file prints the one line `refused`, number, place: empty input gives `refused 1 0`. Numbers are
 --    decimal, one space stands between items, and each line ends with octet 0A."
 -- Assumes nothing.
-use Prim.Native.Nat.{ℕ}
+use Prim.Native.Nat.{ℕ, _<_}
 use mathlib.Core.List.{List, [], _∷_, _++_}
-use lib.ListN.{length}
+use lib.ListN.{length, getD}
 use Rattle.lines.specs.Digits.{decimal}
 
 abbrev pub space : ℕ
@@ -48,3 +48,11 @@ endLine count = ended (endWord ++ spaced (count ∷ []))
 -- "`refused`, number, place"
 unfoldable pub refusedLine : ℕ → ℕ → List ℕ
 refusedLine number place = ended (refusedWord ++ spaced (number ∷ place ∷ []))
+
+-- every number of the list is a 16-bit word
+abbrev pub Words : List ℕ → Type 0
+Words l = (i : ℕ) → getD l i 0 < 65536
+
+-- the most octets of any of these lines, where their numbers are in document 01's bounds
+abbrev pub mostLine : ℕ
+mostLine = 24594

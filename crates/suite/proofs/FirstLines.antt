@@ -1,7 +1,7 @@
 -- The first line: what the calls answer on the way to it comes to the text so far. Assumes nothing.
 use Prim.Native.Nat.{ℕ, _≤_, _<_}
 use native.Mathlib.Omega.{arith}
-use mathlib.Core.Path.{_≡_, refl, sym, ap, _∙_}
+use mathlib.Core.Path.{_≡_, refl, sym, _∙_}
 use mathlib.Core.Bool.{true, false}
 use mathlib.Core.List.{List, [], append-nil}
 use lib.ListN.{length, take}
@@ -18,19 +18,17 @@ use Rattle.tables.specs.Promise.{Tables}
 use Rattle.tables.specs.declared.TableAnswer.the-variants as table-answer
 use Rattle.tables.proofs.Main.{tables-done, tables-writes}
 use Rattle.handout.specs.Night.{clear}
-use Rattle.lines.specs.Lines.{suiteLine, refusedLine}
+use Rattle.lines.specs.Lines.{suiteLine, refusedLine, mostLine}
 use Rattle.lines.specs.Room.{Written}
-use Rattle.lines.proofs.Main.{front}
-use Rattle.lines.proofs.WholeLines.{within}
+use Rattle.lines.proofs.Main.{front, within, suite-few, refused-few}
 use Rattle.suite.specs.declared.Piece.{Piece}
-use Rattle.suite.specs.Text.{sentenceLines, firstLine, Unpacks, Text, refused-file, refused-words}
-use Rattle.suite.specs.Pieces.{mostLine, Clear, SoFar, going, whole}
+use Rattle.suite.specs.Text.{sentenceLines, firstLine, Unpacks, refused-file, refused-words}
+use Rattle.suite.specs.Pieces.{going, whole}
 use Rattle.suite.specs.Begun as begun
 use Rattle.suite.specs.Begun.{OneLine, SuiteLine, FirstLine, of-grammar, of-fault, OfWords, Begun}
-use Rattle.suite.proofs.LinesFit.{suite-few, refused-few}
 
 module _ {text text′ : List ℕ} {past : ℕ} (room : mostLine ≤ length text) where
-  pub one-line : (number place : ℕ) → number < 18446744073709551616 → place < 18446744073709551616 →
+  pub one-line : (number place : ℕ) → number < 65536 → place < 18446744073709551616 →
       Written (refusedLine number place) text 0 text′ past →
       OneLine number place text′ (record { words = 0; count = 0; length = past; over = true })
   one-line number place h k w =

@@ -5,23 +5,19 @@ use native.Mathlib.Omega.{arith}
 use mathlib.Core.Path.{_≡_, refl}
 use mathlib.Core.Logic.{inl, inr}
 use mathlib.Core.List.{List, [], _∷_, _++_}
-use lib.ListN.{length, take, drop, getD, length-append}
-use Rattle.grammar.specs.Words.{Grammar, R, layout, reads, All, InBounds}
+use lib.ListN.{length, take, drop}
+use Rattle.grammar.specs.Words.{Grammar, layout, reads, All, InBounds}
 use Rattle.grammar.specs.Tree.{Tree, Forest, node, nil, leaf, child, sentence, sentences, derivation, derivations}
-use Rattle.grammar.proofs.LayoutExact.{in-bounds, rule-symbols, reads-unique}
+use Rattle.grammar.proofs.LayoutExact.{in-bounds, rule-symbols}
 use Rattle.grammar.proofs.RuleNumbers.{rule-number}
 use Rattle.handout.specs.Next.{Lent, NextPromise}
 use Rattle.handout.specs.Night.{Handout, handout, Night, later, GoesOn, Proper, AllProper, and-then}
 use Rattle.handout.specs.declared.NextAnswer.{NextAnswer}
 use Rattle.handout.specs.declared.NextAnswer.the-variants.{Next}
 use Rattle.handout.proofs.Main.{night-proper, next-writes}
-use Rattle.lines.specs.Digits.{decimal}
-use Rattle.lines.specs.Lines.{space, spaced, suiteLine, endLine, refusedLine}
-use Rattle.lines.proofs.DigitsOfNumbers.{decimal-few}
-use Rattle.lines.proofs.LineLengths.{Words}
-use Rattle.lines.proofs.Main.{sentence-few, with-room}
+use Rattle.lines.specs.Lines.{Words, mostLine}
+use Rattle.lines.proofs.Main.{sentence-few, end-few, with-room}
 use Rattle.suite.specs.declared.Piece.{Piece}
-use Rattle.suite.specs.Pieces.{mostLine}
 use Rattle.suite.specs.Answered.{lineOf, Answered}
 
 -- WORDS of trees
@@ -57,29 +53,6 @@ module _ {g : Grammar} (ok : InBounds g) where
     derivations-words (leaf p f) = derivations-words f
     derivations-words (child t f) =
         words-both (derivation t) (derivations f) (derivation-words t) (derivations-words f)
-
--- LENGTHS of the other lines
-pub end-few : (count : ℕ) → count < 65536 → length (endLine count) ≤ mostLine
-unfolding endLine spaced
-end-few count h =
-    let few = decimal-few 4 count (omega arith) in
-    simp length-append (omega arith)
-
-pub suite-few : (N T R : ℕ) → N < 65536 → T < 65536 → R < 65536 → length (suiteLine N T R) ≤ mostLine
-unfolding suiteLine spaced
-suite-few N T R h k l =
-    let a = decimal-few 4 N (omega arith) in
-    let b = decimal-few 4 T (omega arith) in
-    let c = decimal-few 4 R (omega arith) in
-    simp length-append (omega arith)
-
-pub refused-few : (number place : ℕ) → number < 18446744073709551616 → place < 18446744073709551616 →
-    length (refusedLine number place) ≤ mostLine
-unfolding refusedLine spaced
-refused-few number place h k =
-    let a = decimal-few 19 number (omega arith) in
-    let b = decimal-few 19 place (omega arith) in
-    simp length-append (omega arith)
 
 pub first-proper : {g : Grammar} {r : ℕ} {t ks : List ℕ} {hs : List Handout} → AllProper g (handout r t ks ∷ hs) → Proper g hs r t ks
 first-proper (and-then p ps) = p

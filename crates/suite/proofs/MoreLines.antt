@@ -5,22 +5,23 @@ use native.Mathlib.Omega.{arith}
 use mathlib.Core.Path.{_≡_, refl, sym, ap, _∙_}
 use mathlib.Core.Bool.{Bool, true, false}
 use mathlib.Core.Logic.{_⊎_, inl, inr}
-use mathlib.Core.List.{List, [], _∷_, _++_, append-assoc}
+use mathlib.Core.List.{List, _++_, append-assoc}
 use lib.ListN.{length, take, drop, length-append}
 use lib.Dec.{leb}
 use lib.Seq.{take-at, length-take-le}
 use borrow.Author.Tests.{leb-true, leb-false}
-use Rattle.grammar.specs.Words.{Grammar, R}
+use Rattle.grammar.specs.Words.{Grammar}
 use Rattle.grammar.proofs.LayoutExact.{in-bounds}
 use Rattle.handout.specs.Next.{Lent, NextPromise}
-use Rattle.handout.specs.Night.{Handout, Night, later, Over, Enough, GoesOn}
+use Rattle.handout.specs.Night.{Handout, Night, later, Enough, GoesOn}
 use Rattle.handout.specs.declared.NextAnswer.{NextAnswer}
 use Rattle.handout.specs.declared.NextAnswer.the-variants.{Next, Finished, Refused}
 use Rattle.handout.proofs.Main.{at-most-R, never-refused}
-use Rattle.lines.proofs.WholeLines.{within}
+use Rattle.lines.proofs.Main.{within}
+use Rattle.lines.specs.Lines.{mostLine}
 use Rattle.suite.specs.declared.Piece.{Piece}
-use Rattle.suite.specs.Text.{sentenceLines, firstLine, suiteText, Accepts, Text, suite}
-use Rattle.suite.specs.Pieces.{mostLine, Large, SoFar, going, whole}
+use Rattle.suite.specs.Text.{sentenceLines, firstLine, suiteText, Accepts, suite}
+use Rattle.suite.specs.Pieces.{Large, SoFar, going, whole}
 use Rattle.suite.specs.Answered.{lineOf, counted, isLast, Answered}
 use Rattle.suite.specs.Filled.{Waits, Filled}
 use Rattle.suite.proofs.LinesFit.{whole-line}

@@ -1,20 +1,20 @@
 -- A night is settled: over words that are one grammar, whatever buffers each call was lent and whatever stands behind the table, two
 -- nights of as many handouts have handed out the same, and two that are over have handed out as many. The target of a call is the
 -- lowest rule that none before has used, and its tree has one listing. Assumes nothing.
-use Prim.Native.Nat.{ℕ, zero, suc, _≤_, _<_}
+use Prim.Native.Nat.{ℕ, suc, _≤_, _<_}
 use native.Mathlib.Omega.{arith}
 use native.Mathlib.Decide.{decLt}
 use mathlib.Core.Path.{_≡_, refl, sym, ap, _∙_, subst}
-use mathlib.Core.List.{List, [], _∷_}
+use mathlib.Core.List.{List, _∷_}
 use lib.ListN.{length, take}
-use Rattle.grammar.specs.Words.{Grammar, R, layout, reads}
+use Rattle.grammar.specs.Words.{Grammar, layout, reads}
 use Rattle.grammar.specs.Tree.{Tree, sentence, derivation}
 use Rattle.grammar.specs.Measure.{plain}
 use Rattle.grammar.specs.Least.{TreeOf}
 use Rattle.grammar.proofs.LayoutExact.{reads-unique}
 use Rattle.grammar.proofs.Main.{tree-of-same}
 use Rattle.handout.specs.Next.{Lent, NextPromise}
-use Rattle.handout.specs.Night.{Handout, handout, Night, clear, later, Over, UsedIn, Proper, AllProper, and-then}
+use Rattle.handout.specs.Night.{Handout, handout, Night, clear, later, Over, Proper}
 use Rattle.handout.specs.declared.NextAnswer.the-variants.{Next}
 use Rattle.handout.proofs.Main.{next-writes, night-proper, all-used}
 use Rattle.suite.proofs.LinesFit.{first-proper}

@@ -1,12 +1,12 @@
 -- The text of a file is settled: there is one, and no other. Into buffers with room for all, `unpack` and `tables` refuse by the
 -- file alone; and a night is settled. Assumes nothing.
-use Prim.Native.Nat.{ℕ, _+_, _*_, _%_, _≤_, _<_}
+use Prim.Native.Nat.{ℕ, _%_, _≤_, _<_}
 use native.Mathlib.Omega.{arith}
 use native.Mathlib.Decide.{decLt, ℕ-discrete}
-use mathlib.Core.Path.{_≡_, refl, sym, ap, _∙_, subst}
+use mathlib.Core.Path.{_≡_, refl, sym, _∙_}
 use mathlib.Core.List.{List}
-use lib.ListN.{length, take, getD, replicate, length-replicate}
-use Rattle.grammar.specs.Words.{Grammar, R, layout, reads}
+use lib.ListN.{length, getD, replicate, length-replicate}
+use Rattle.grammar.specs.Words.{Grammar, layout, reads}
 use Rattle.grammar.proofs.LayoutExact.{in-bounds, reads-unique}
 use Rattle.packed.specs.File.{said, following, wordsIn}
 use Rattle.packed.specs.Promise.{NotVersionOne, BadLength, Unpacked}
@@ -15,7 +15,7 @@ use Rattle.packed.specs.Promise.BadLength.{under-three, odd, above, not-followi
 use Rattle.packed.specs.Promise.Unpacked.{wrong-version, wrong-length, no-room-for-words, all-words}
 use Rattle.packed.specs.declared.FileAnswer.the-variants as file-answer
 use Rattle.packed.proofs.Main.{unpack-settles, passes-exactly}
-use Rattle.tables.specs.Table.{tableLength, IsTable}
+use Rattle.tables.specs.Table.{tableLength}
 use Rattle.tables.specs.Promise.{Tables, row-4, row-5, row-6, row-7, row-3, done}
 use Rattle.tables.specs.declared.TableAnswer.{TableAnswer}
 use Rattle.tables.specs.declared.TableAnswer.the-variants as table-answer

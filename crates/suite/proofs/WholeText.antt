@@ -1,14 +1,15 @@
 -- WHOLE TEXT: the pieces of successive calls, joined, are the text so far, and the text of the file once it is over; and it is over
 -- in time. Assumes nothing.
-use Prim.Native.Nat.{ℕ, zero, suc, _+_, _≤_, _<_}
+use Prim.Native.Nat.{ℕ, zero, suc, _+_, _≤_}
 use native.Mathlib.Omega.{arith}
-use mathlib.Core.Path.{_≡_, refl, sym}
-use mathlib.Core.Bool.{Bool, true, false}
+use mathlib.Core.Path.{_≡_, refl}
+use mathlib.Core.Bool.{true, false}
 use mathlib.Core.List.{List, [], _++_, append-nil}
 use lib.ListN.{length, take, replicate}
+use Rattle.lines.specs.Lines.{mostLine}
 use Rattle.suite.specs.declared.Piece.{Piece}
 use Rattle.suite.specs.Text.{Text}
-use Rattle.suite.specs.Pieces.{mostLine, Clear, SoFar, going, whole, FirstPiece, NextPiece, Pieces, first, next, Reached, Made}
+use Rattle.suite.specs.Pieces.{Clear, SoFar, going, whole, FirstPiece, NextPiece, Pieces, first, next, Reached, Made}
 use Rattle.suite.specs.Filled.{Waits, Filled}
 use Rattle.suite.specs.Begun.{Begun}
 use Rattle.suite.proofs.MoreLines.{true-not-false, count-few}

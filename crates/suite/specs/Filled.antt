@@ -5,8 +5,9 @@ use mathlib.Core.Path.{_≡_}
 use mathlib.Core.Bool.{false}
 use mathlib.Core.List.{List, _++_}
 use lib.ListN.{length, take}
+use Rattle.lines.specs.Lines.{mostLine}
 use Rattle.suite.specs.declared.Piece.{Piece}
-use Rattle.suite.specs.Pieces.{mostLine, SoFar}
+use Rattle.suite.specs.Pieces.{SoFar}
 
 -- behind some text, what waits is the text so far of some file
 pub record Waits (words table marks text : List ℕ) (so : Piece) : Type 0 where

@@ -7,12 +7,9 @@ use mathlib.Core.List.{List, _++_}
 use lib.ListN.{length, take, getD}
 use Rattle.grammar.specs.Words.{Grammar}
 use Rattle.handout.specs.Night.{Handout, Night}
+use Rattle.lines.specs.Lines.{mostLine}
 use Rattle.suite.specs.declared.Piece.{Piece}
 use Rattle.suite.specs.Text.{sentenceLines, firstLine, Accepts, Text}
-
--- the most octets of a line (`sentence-few` of lines)
-abbrev pub mostLine : ℕ
-mostLine = 24594
 
 abbrev pub Clear : List ℕ → Type 0
 Clear marks = (i : ℕ) → getD marks i 0 ≡ 0

@@ -8,10 +8,11 @@ ghost use mathlib.Core.Path.{_≡_};
 ghost use mathlib.Core.Bool.{false};
 ghost use lib.ListN.{length};
 ghost use Rattle.handout.specs.Next.{Lent};
+ghost use Rattle.lines.specs.Lines.{mostLine};
 ghost use Rattle.suite.specs.Answered.{Ended, Answered};
 ghost use Rattle.suite.specs.Begun.{OneLine, FirstLine, OfWords, Begun};
 ghost use Rattle.suite.specs.Filled.{Waits, Filled};
-ghost use Rattle.suite.specs.Pieces.{mostLine, Clear, Large, FirstPiece, Reached, NextPiece, Made};
+ghost use Rattle.suite.specs.Pieces.{Clear, Large, FirstPiece, Reached, NextPiece, Made};
 use grammar::layout;
 use grammar::layout::LayoutAnswer;
 use handout::NextAnswer;
@@ -31,7 +32,7 @@ const MOST_RULES: usize = 256;
 
 const MOST_NUMBERS: usize = 4096;
 
-// The most octets of a line (`sentence-few` of crates/lines).
+// The most octets of a line (`sentence-few` and the others of crates/lines).
 const MOST_LINE: usize = 24594;
 
 // How far the text is: how many words the grammar has, how many sentences there were, how many octets of the buffer are the piece,

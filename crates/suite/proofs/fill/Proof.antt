@@ -1,6 +1,5 @@
 -- `suite::fill` meets its contract. The loop's invariant: the buffers keep their lengths, and what waits is the text so far behind
 -- whatever was it at first (`Filling`). Each turn leaves one less (`turns`). Assumes nothing.
-use native.Mathlib.Omega.{arith}
 use mathlib.Core.Path.{_≡_, refl}
 use lib.ListN.{length}
 use borrow.Author.Tests.{not-true, not-false}

@@ -1,5 +1,4 @@
 -- `suite::next_piece` meets its contract. Assumes nothing.
-use native.Mathlib.Omega.{arith}
 use mathlib.Core.Path.{sym}
 use lib.Seq.{length-take-le}
 use Rattle.suite.proofs.WholeText.{pieces-within, next-waits, next-made}

@@ -7,7 +7,8 @@ use lib.ListN.{length}
 use lib.Seq.{length-take-le}
 use borrow.Author.Needs.{needs}
 use borrow.Author.Tests.{not-true}
-use Rattle.suite.specs.Pieces.{mostLine, Pieces, first, next}
+use Rattle.lines.specs.Lines.{mostLine}
+use Rattle.suite.specs.Pieces.{Pieces, first, next}
 use Rattle.suite.proofs.MoreLines.{count-few, turns, turns-fall}
 use Rattle.suite.proofs.WholeText.{pieces-so-far, piece-made, zeros-clear}
 use Rattle.suite.proofs.print_pieces.Statement.{statement}
