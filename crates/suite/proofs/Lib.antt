@@ -4,4 +4,5 @@ pub mod MoreLines
 pub mod WholeText
 pub mod NightSettled
 pub mod TextSettled
+pub mod LongFiles
 pub mod Statements

@@ -5,6 +5,7 @@ use Prim.Native.Nat.{ℕ, _≤_}
 use mathlib.Core.Path.{_≡_}
 use mathlib.Core.Bool.{true, false}
 use mathlib.Core.List.{List}
+use lib.ListN.{take}
 use Rattle.grammar.specs.Words.{Grammar, layout, reads}
 use Rattle.handout.specs.Night.{Handout, Over}
 use Rattle.suite.specs.declared.Piece.{Piece}
@@ -13,6 +14,7 @@ use Rattle.suite.specs.Pieces.{Pieces}
 use Rattle.suite.proofs.WholeText as WholeText
 use Rattle.suite.proofs.TextSettled as TextSettled
 use Rattle.suite.proofs.NightSettled as NightSettled
+use Rattle.suite.proofs.LongFiles as LongFiles
 
 -- THE TEXT. Each file has one text, and no other.
 pub text-met : (file : List ℕ) → (out : List ℕ) × Text file out
@@ -20,6 +22,11 @@ text-met = TextSettled.text-met
 
 pub text-settles : {file a b : List ℕ} → Text file a → Text file b → a ≡ b
 text-settles = TextSettled.text-settles
+
+-- WHAT IS READ. "The program reads at most 17,418 octets, so a longer file meets 2 (or 1, by its first octet)": the text of what is
+-- read is the text of the whole file.
+pub read-text : (file : List ℕ) {out : List ℕ} → Text (take 17418 file) out → Text file out
+read-text = LongFiles.read-text
 
 -- A NIGHT that is over has handed out the same whatever buffers its calls were lent, and whatever stands behind the table.
 pub night-settles : {words : List ℕ} {g : Grammar} → layout words ≡ reads g → {table table′ : List ℕ} {hs hs′ : List Handout} →

@@ -112,7 +112,7 @@ text-settles (suite {words = words} {g = g} {hs = hs} s o) (suite {words = words
 roomy : (n : ℕ) → (l : List ℕ) × (n ≤ length l)
 roomy n = (replicate n 0, omega (arith, length-replicate {A = ℕ} n 0))
 
-version? : (file : List ℕ) → Dec (NotVersionOne file)
+pub version? : (file : List ℕ) → Dec (NotVersionOne file)
 version? file = go (ℕ-discrete (getD file 0 0) 1) (ℕ-discrete (length file) 0)
   where
     go : Dec (getD file 0 0 ≡ 1) → Dec (length file ≡ 0) → Dec (NotVersionOne file)
@@ -124,7 +124,7 @@ version? file = go (ℕ-discrete (getD file 0 0) 1) (ℕ-discrete (length file) 
         neither (empty e) = l e
         neither (first-not-one n) = n v
 
-bad-length? : (file : List ℕ) → Dec (BadLength file)
+pub bad-length? : (file : List ℕ) → Dec (BadLength file)
 bad-length? file =
     go (decLt (length file) 3) (ℕ-discrete (said file % 2) 1) (decLt 17414 (said file))
     (ℕ-discrete (said file) (length (following file)))
@@ -166,14 +166,14 @@ module _ {file words : List ℕ} (u : Unpacks file words) where
       go room (table-answer.Refused k p, after, h) = (refusedLine k p, refused-words u room h)
       go room (table-answer.Done n, after, h) = with-table h
 
-by-file : {file : List ℕ} {k p : ℕ} → (before : List ℕ) × (8707 ≤ length before) →
-    ((before : List ℕ) → Unpacked file before (file-answer.Refused k p) before) → (out : List ℕ) × Text file out
-by-file {k = k} {p = p} (before, room) h = (refusedLine k p, refused-file room (h before))
+pub file-line : {file : List ℕ} {k p : ℕ} → ((before : List ℕ) → Unpacked file before (file-answer.Refused k p) before) →
+    Text file (refusedLine k p)
+file-line h = let (before, room) = roomy 8707 in refused-file room (h before)
 
 pub text-met : (file : List ℕ) → (out : List ℕ) × Text file out
 text-met file = go (version? file) (bad-length? file)
   where
     go : Dec (NotVersionOne file) → Dec (BadLength file) → (out : List ℕ) × Text file out
-    go (yes v) d = by-file (roomy 8707) (λ before. wrong-version v)
-    go (no v) (yes l) = by-file (roomy 8707) (λ before. wrong-length v l)
+    go (yes v) d = (refusedLine 1 0, file-line (λ before. wrong-version v))
+    go (no v) (yes l) = (refusedLine 2 1, file-line (λ before. wrong-length v l))
     go (no v) (no l) = of-words (record { version = v; long = l; are = refl })
