@@ -21,13 +21,17 @@ use Rattle.lines.proofs.Main.{within}
 use Rattle.lines.specs.Lines.{mostLine}
 use Rattle.suite.specs.declared.Piece.{Piece}
 use Rattle.suite.specs.Text.{sentenceLines, firstLine, suiteText, Accepts, suite}
-use Rattle.suite.specs.Pieces.{Large, SoFar, going, whole}
+use Rattle.suite.specs.Pieces.{SoFar, going, whole}
 use Rattle.suite.specs.Answered.{lineOf, counted, isLast, Answered}
 use Rattle.suite.specs.Filled.{Waits, Filled}
 use Rattle.suite.proofs.LinesFit.{whole-line}
 
 pub true-not-false : {b : Bool} → b ≡ true → b ≡ false → ⊥
 true-not-false e f = let z : _≡_ {A = ℕ} 0 1 = cc in omega arith
+
+-- marks for all rules, room for every sentence and every derivation
+abbrev pub Room : List ℕ → List ℕ → List ℕ → Type 0
+Room marks tokens rules = (256 ≤ length marks) × (4096 ≤ length tokens) × (4096 ≤ length rules)
 
 -- while it is not over there are no more sentences than rules
 pub count-few : {file words table marks out : List ℕ} {count : ℕ} {over : Bool} →
@@ -61,7 +65,7 @@ line-more {g = g} hs accepts night a (inr (r, n, m, is)) p last count e =
 
 module _ {words table text text′ : List ℕ} {before after : Lent} {so then : Piece} (on : so .over ≡ false)
     (room : so .length + mostLine ≤ length text)
-    (large : Large (before .marks) (before .tokens) (before .rules) text)
+    (large : Room (before .marks) (before .tokens) (before .rules))
     (a : Answered words table before after text text′ so then) where
   behind : (file out : List ℕ) →
       SoFar file words table (before .marks) (so .count) (so .over) (out ++ take (so .length) text) →
@@ -107,7 +111,7 @@ module _ {words table marks text : List ℕ} {so : Piece} where
 
   pub filling-goes-on : {text′ text″ : List ℕ} {before after : Lent} {then more : Piece} →
       Filling words table marks (before .marks) text text′ so then → then .over ≡ false →
-      then .length + mostLine ≤ length text′ → Large (before .marks) (before .tokens) (before .rules) text′ →
+      then .length + mostLine ≤ length text′ → Room (before .marks) (before .tokens) (before .rules) →
       Answered words table before after text′ text″ then more →
       Filling words table marks (after .marks) text text″ so more
   filling-goes-on {then = then} {more = more} f on room large a =

@@ -14,10 +14,9 @@ use Rattle.suite.specs.Text.{sentenceLines, firstLine, Accepts, Text}
 abbrev pub Clear : List ℕ → Type 0
 Clear marks = (i : ℕ) → getD marks i 0 ≡ 0
 
--- marks for all rules, room for every sentence and every derivation, room for the longest line
-abbrev pub Large : List ℕ → List ℕ → List ℕ → List ℕ → Type 0
-Large marks sentence derivation text =
-    (256 ≤ length marks) × (4096 ≤ length sentence) × (4096 ≤ length derivation) × (mostLine ≤ length text)
+-- marks for all rules, room for the longest line
+abbrev pub Large : List ℕ → List ℕ → Type 0
+Large marks text = (256 ≤ length marks) × (mostLine ≤ length text)
 
 -- The text of a file so far: all of it where it is over; else the first line and the lines of a night that goes on, of which the
 -- marks and the number of sentences are these.

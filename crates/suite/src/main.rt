@@ -58,29 +58,11 @@ fn print_pieces(file: &[u8], text: &mut [u8])
     let mut words = [0u16; MOST_WORDS];
     let mut table = [0u16; MOST_TABLE];
     let mut marks = [0u8; MOST_RULES];
-    let mut sentence = [0u16; MOST_NUMBERS];
-    let mut derivation = [0u16; MOST_NUMBERS];
-    let mut so = first_piece(
-        file,
-        &mut words,
-        &mut table,
-        &mut marks,
-        &mut sentence,
-        &mut derivation,
-        text,
-    );
+    let mut so = first_piece(file, &mut words, &mut table, &mut marks, text);
     let mut end = so.length;
     let mut is_written = print(&text[..end]);
     while is_written && !so.over {
-        so = next_piece(
-            &words,
-            &table,
-            &mut marks,
-            &mut sentence,
-            &mut derivation,
-            text,
-            so,
-        );
+        so = next_piece(&words, &table, &mut marks, text, so);
         end = so.length;
         is_written = print(&text[..end]);
     }
@@ -99,40 +81,22 @@ fn first_piece(
     words: &mut [u16],
     table: &mut [u16],
     marks: &mut [u8],
-    sentence: &mut [u16],
-    derivation: &mut [u16],
     text: &mut [u8],
 ) -> Piece
     requires { ⌜ (8707 ≤ length (now words)) × (896 ≤ length (now table)) ⌝ }
-    requires { ⌜ Large (now marks) (now sentence) (now derivation) (now text) ⌝ }
+    requires { ⌜ Large (now marks) (now text) ⌝ }
     requires { ⌜ Clear (now marks) ⌝ }
     ensures { λ r. ⌜ FirstPiece (now (file .entry)) (now (words .exit)) (now (table .exit)) (now (marks .exit))
         (now (text .exit)) r ⌝ }
 {
     let begun = begin(file, words, table, text);
     let count = begun.words;
-    fill(
-        &words[..count],
-        table,
-        marks,
-        sentence,
-        derivation,
-        text,
-        begun,
-    )
+    fill(&words[..count], table, marks, text, begun)
 }
 
 // The next piece, after those that lead to here.
-fn next_piece(
-    words: &[u16],
-    table: &[u16],
-    marks: &mut [u8],
-    sentence: &mut [u16],
-    derivation: &mut [u16],
-    text: &mut [u8],
-    so: Piece,
-) -> Piece
-    requires { ⌜ Large (now marks) (now sentence) (now derivation) (now text) ⌝ }
+fn next_piece(words: &[u16], table: &[u16], marks: &mut [u8], text: &mut [u8], so: Piece) -> Piece
+    requires { ⌜ Large (now marks) (now text) ⌝ }
     requires { ⌜ Reached (now words) (now table) (now marks) so ⌝ }
     requires { ⌜ so .over ≡ false ⌝ }
     ensures { λ r. ⌜ NextPiece (now (words .entry)) (now (table .entry)) (now (marks .entry)) (now (marks .exit))
@@ -143,8 +107,6 @@ fn next_piece(
         &words[..count],
         table,
         marks,
-        sentence,
-        derivation,
         text,
         Piece {
             words: count,
@@ -156,23 +118,25 @@ fn next_piece(
 }
 
 // Puts line after line behind what waits, while the longest one surely fits.
-fn fill(
-    words: &[u16],
-    table: &[u16],
-    marks: &mut [u8],
-    sentence: &mut [u16],
-    derivation: &mut [u16],
-    text: &mut [u8],
-    begun: Piece,
-) -> Piece
-    requires { ⌜ Large (now marks) (now sentence) (now derivation) (now text) ⌝ }
+fn fill(words: &[u16], table: &[u16], marks: &mut [u8], text: &mut [u8], begun: Piece) -> Piece
+    requires { ⌜ Large (now marks) (now text) ⌝ }
     requires { ⌜ Waits (now words) (now table) (now marks) (now text) begun ⌝ }
     ensures { λ r. ⌜ Filled (now (words .entry)) (now (table .entry)) (now (marks .entry)) (now (marks .exit))
         (now (text .entry)) (now (text .exit)) begun r ⌝ }
 {
+    let mut sentence = [0u16; MOST_NUMBERS];
+    let mut derivation = [0u16; MOST_NUMBERS];
     let mut so = begun;
     while !so.over && MOST_LINE <= text.len() - so.length {
-        so = answered(words, table, marks, sentence, derivation, text, so);
+        so = answered(
+            words,
+            table,
+            marks,
+            &mut sentence,
+            &mut derivation,
+            text,
+            so,
+        );
     }
     so
 }

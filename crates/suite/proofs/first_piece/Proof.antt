@@ -18,9 +18,9 @@ slice-aggregate-fill c = sym (length-take-le _ _ (c .before .before .before .bef
 
 fill-requires : tie.Need-fill-requires
 fill-requires c κs =
-    let begun = c .before .before .before .before .before .before .before .before .before .before .before .before .begin .ensures in (
-      (search needs, search needs, search needs, search needs),
-      record { within = begun .within; file = _; out = []; so-far = begun .so-far _ (c .before .before .before .before .before .before .before .before .before .before .before .before .before .before .before .before .before .before .before .before .before .before .before .pre .1 .1) },
+    let begun = c .before .before .before .before .before .before .before .before .before .before .begin .ensures in (
+      (search needs, search needs),
+      record { within = begun .within; file = _; out = []; so-far = begun .so-far _ (c .before .before .before .before .before .before .before .before .before .before .before .before .before .before .before .before .before .before .before .pre .1 .1) },
     )
 
 same-length : tie.Need-same-length
@@ -35,14 +35,8 @@ same-length-3 c = search needs
 same-length-4 : tie.Need-same-length-4
 same-length-4 c = search needs
 
-same-length-5 : tie.Need-same-length-5
-same-length-5 c = search needs
-
-same-length-6 : tie.Need-same-length-6
-same-length-6 c = search needs
-
 returns : tie.Need-returns
-returns c = first-made (c .before .before .before .before .before .before .before .before .before .before .before .before .before .before .before .before .before .before .before .before .before .begin .ensures) (c .before .before .before .before .before .before .before .before .before .before .before .before .before .before .before .before .before .before .before .before .before .before .before .before .before .before .before .before .before .before .before .before .pre .1 .1) (c .before .before .before .before .before .before .before .before .fill .ensures)
+returns c = first-made (c .before .before .before .before .before .before .before .before .before .before .before .before .before .before .before .begin .ensures) (c .before .before .before .before .before .before .before .before .before .before .before .before .before .before .before .before .before .before .before .before .before .before .before .before .pre .1 .1) (c .before .before .before .before .fill .ensures)
 
 pub first-piece-spec : {M : Type 1} → statement M
 first-piece-spec =
@@ -56,6 +50,4 @@ first-piece-spec =
     same-length-2
     same-length-3
     same-length-4
-    same-length-5
-    same-length-6
     returns)

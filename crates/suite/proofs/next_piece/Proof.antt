@@ -7,14 +7,12 @@ use Rattle.suite.proofs.next_piece.Statement.{statement}
 use Rattle.suite.proofs.next_piece.Tie as tie
 
 slice-aggregate-fill : tie.Need-slice-aggregate-fill
-slice-aggregate-fill c = sym (length-take-le _ _ (pieces-within (c .before .before .before .before .before .before .before .pre .1 .0 .pieces)))
+slice-aggregate-fill c = sym (length-take-le _ _ (pieces-within (c .before .before .before .before .before .pre .1 .0 .pieces)))
 
 fill-requires : tie.Need-fill-requires
 fill-requires c κs =
-    let start = c .before .before .before .before .before .before .before .before .before .before .before in (
-      (search needs, search needs, search needs, search needs),
-      next-waits (start .pre .1 .0) (start .pre .1 .1) _,
-    )
+    let start = c .before .before .before .before .before .before .before in
+    ((search needs, search needs), next-waits (start .pre .1 .0) (start .pre .1 .1) _)
 
 same-length : tie.Need-same-length
 same-length c = search needs
@@ -22,23 +20,9 @@ same-length c = search needs
 same-length-2 : tie.Need-same-length-2
 same-length-2 c = search needs
 
-same-length-3 : tie.Need-same-length-3
-same-length-3 c = search needs
-
-same-length-4 : tie.Need-same-length-4
-same-length-4 c = search needs
-
 returns : tie.Need-returns
-returns c = next-made (c .before .before .before .before .before .before .before .before .before .before .before .before .before .before .before .before .before .before .before .before .pre .1 .1) (c .before .before .before .before .before .before .before .before .before .before .before .before .before .before .before .before .before .before .before .before .pre .0 .3) (c .before .before .before .before .before .before .before .before .fill .ensures)
+returns c = next-made (c .before .before .before .before .before .before .before .before .before .before .before .before .pre .1 .1) (c .before .before .before .before .before .before .before .before .before .before .before .before .pre .0 .1) (c .before .before .before .before .fill .ensures)
 
 pub next-piece-spec : {M : Type 1} → statement M
 next-piece-spec =
-    tie.close
-    (tie.spec
-    slice-aggregate-fill
-    fill-requires
-    same-length
-    same-length-2
-    same-length-3
-    same-length-4
-    returns)
+    tie.close (tie.spec slice-aggregate-fill fill-requires same-length same-length-2 returns)
