@@ -6,8 +6,8 @@ use native.Mathlib.Numerals.{add-one}
 use native.Mathlib.Omega.{arith}
 use mathlib.Core.List.{List, [], _∷_, _++_}
 use mathlib.Core.Path.{_≡_, refl, ap, sym, _∙_}
-use lib.ListN.{length, getD, set, take, drop, length-take}
-use lib.Seq.{length-sets, take-suc, take-all}
+use lib.ListN.{length, getD, set, take, drop, length-take, length-drop}
+use lib.Seq.{length-sets, length-take-le, take-suc, take-all, getD-take, getD-drop}
 use Rattle.grammar.specs.Words.{Grammar, R}
 use Rattle.grammar.specs.Walk.{countAt}
 use Rattle.grammar.specs.Rules.{rightAt}
@@ -112,11 +112,6 @@ module _ (words starts table : List ℕ) (n : ℕ) where
     };
   }
 
-  -- the next symbol of a rule is smaller than the rule
-  pub symbol-smaller : (k i : ℕ) (w : List ℕ) → w ≡ rightOf words starts k → i < length w →
-      2 * sizeBy n table (getD w i 0) < 2 * sizesBy n table (rightOf words starts k) + 1
-  symbol-smaller k i w is h = omega (arith, ap (sizesBy n table) is, sizes-within n table w i h)
-
 module _ {words starts table : List ℕ} {n : ℕ} where
   -- one more symbol
   module _ {w a b c x y z : List ℕ} {p q r : Lengths} {i : ℕ} where
@@ -139,16 +134,7 @@ module _ {words starts table : List ℕ} {n : ℕ} where
       };
     }
 
-  -- the next symbol of a rule can be listed, and the next of some symbols
-  pub symbol-ready : {w a b x y : List ℕ} {p q : Lengths} {k i : ℕ} → w ≡ rightOf words starts k →
-      RuleReady words starts table n k p → Turn words starts table n w a b x y (oneRule p) q i → i < length w →
-      SymbolReady words starts table n (getD w i 0) q
-  symbol-ready {w} {i = i} is ready turn h = record {
-    g = ready .g;
-    known = ready .known;
-    few = omega (arith, ready .few, ap (sizesBy n table) is, turn .done .counted, sizes-within n table w i h);
-  }
-
+  -- the next symbol can be listed
   pub symbol-of-ready : {w a b x y : List ℕ} {p q : Lengths} {i : ℕ} → SymbolsReady words starts table n w p →
       Turn words starts table n w a b x y p q i → i < length w → SymbolReady words starts table n (getD w i 0) q
   symbol-of-ready {w} {i = i} ready turn h = record {
@@ -180,11 +166,6 @@ module _ {words starts table : List ℕ} {n : ℕ} where
     where
       number : Wrote [] (k ∷ []) a a x x₁ p (oneRule p)
       number = record { more-tokens = sym (add-zero (p .tokens)); more-rules = refl; sentence = refl; derivation = e }
-
-  pub rule-listed : {k : ℕ} {w a b x x₁ y : List ℕ} {p q : Lengths} {i : ℕ} → w ≡ rightOf words starts k →
-      x₁ ≡ set x (p .rules) k → Turn words starts table n w a b x₁ y (oneRule p) q i → length w ≤ i →
-      RuleWritten words starts table n k a b x y p q
-  rule-listed is e turn h = numbered e (rw is at (symbols-listed turn h))
 
   -- a nonterminal by its chosen rule
   module _ {s k : ℕ} {p : Lengths} (ready : SymbolReady words starts table n s p) (h : s < n) (e : k ≡ entry table s 1) where
@@ -218,3 +199,67 @@ module _ {words starts table : List ℕ} {n : ℕ} where
             wrote = so .wrote;
           };
     }
+
+-- what the loop over a rule's symbols keeps, which are read where they stand, from the index of the first one on
+abbrev pub RuleTurn : List ℕ → List ℕ → List ℕ → ℕ → ℕ → ℕ → List ℕ → List ℕ → List ℕ → List ℕ → Lengths → Lengths → ℕ → Type 0
+RuleTurn words starts table n k first a b x y p q i =
+    (first ≤ i) × Turn words starts table n (rightOf words starts k) a b x y p q (i - first)
+
+module _ {words starts : List ℕ} {k : ℕ} (stands : Stands words starts k) where
+  right-is : rightOf words starts k ≡ take (countAt words (getD starts k 0)) (drop (getD starts k 0 + 2) words)
+  right-is = right-whole words (getD starts k 0) (stands .whole)
+
+  right-count : length (rightOf words starts k) ≡ countAt words (getD starts k 0)
+  right-count =
+      let at = getD starts k 0 in
+      ap length right-is
+      ∙ length-take-le (countAt words at) (drop (at + 2) words) (omega (arith, length-drop (at + 2) words, stands .whole))
+
+  module _ {first end : ℕ} (ef : first ≡ getD starts k 0 + 2) (ee : end ≡ first + countAt words (getD starts k 0)) where
+    symbol-read : (i : ℕ) → first ≤ i → i < end → getD words i 0 ≡ getD (rightOf words starts k) (i - first) 0
+    symbol-read i l h =
+        let at = getD starts k 0 in
+        let same : at + 2 + (i - first) ≡ i = omega (arith, ef) in
+        sym
+        (ap (λ (w : List ℕ). getD w (i - first) 0) right-is
+        ∙ getD-take (countAt words at) (drop (at + 2) words) (i - first) 0 (omega (arith, ee))
+        ∙ getD-drop (at + 2) words (i - first) 0 ∙ ap (λ (j : ℕ). getD words j 0) same)
+
+    module _ (table : List ℕ) (n : ℕ) where
+      pub rule-begins : (a x : List ℕ) (p : Lengths) → RuleTurn words starts table n k first a a x x p p first
+      rule-begins a x p =
+          let none : first - first ≡ 0 = omega arith in
+          (omega arith, rw none (turns-begin words starts table n (rightOf words starts k) a x p))
+
+      -- the next symbol is among the rule's, and so smaller than the rule
+      next-within : (i : ℕ) → first ≤ i → i < end →
+          sizesBy n table (take (i - first) (rightOf words starts k)) + sizeBy n table (getD words i 0) ≤
+          sizesBy n table (rightOf words starts k)
+      next-within i l h =
+          rw (symbol-read i l h) (sizes-within n table (rightOf words starts k) (i - first) (omega (arith, right-count, ee)))
+
+      pub rule-falls : (i : ℕ) → first ≤ i → i < end →
+          2 * sizeBy n table (getD words i 0) < 2 * sizesBy n table (rightOf words starts k) + 1
+      rule-falls i l h = omega (arith, next-within i l h)
+
+      -- it can be listed, and is
+      module _ {a b x y : List ℕ} {p q : Lengths} {i : ℕ} where
+        pub rule-next : RuleReady words starts table n k p → RuleTurn words starts table n k first a b x y (oneRule p) q i → i < end →
+            SymbolReady words starts table n (getD words i 0) q
+        rule-next ready (l, turn) h = record {
+          g = ready .g;
+          known = ready .known;
+          few = omega (arith, ready .few, turn .done .counted, next-within i l h);
+        }
+
+        pub rule-goes-on : {c z : List ℕ} {r : Lengths} → RuleTurn words starts table n k first a b x y p q i → i < end →
+            SymbolWritten words starts table n (getD words i 0) b c y z q r →
+            RuleTurn words starts table n k first a c x z p r (i + 1)
+        rule-goes-on (l, turn) h one =
+            let step : i + 1 - first ≡ i - first + 1 = omega arith in
+            (omega arith, rw step (turn-goes-on turn (omega (arith, right-count, ee)) (rw (symbol-read i l h) at one)))
+
+      -- after the last one, with the rule's number before them
+      pub rule-ends : {a b x x₁ y : List ℕ} {p q : Lengths} {i : ℕ} → x₁ ≡ set x (p .rules) k →
+          RuleTurn words starts table n k first a b x₁ y (oneRule p) q i → end ≤ i → RuleWritten words starts table n k a b x y p q
+      rule-ends e (l, turn) h = numbered e (symbols-listed turn (omega (arith, right-count, ee)))

@@ -52,7 +52,8 @@ pub fn list_symbol(
     list_rule(words, starts, table, n, chosen, past, sentence, derivation)
 }
 
-// Lists the rule of a number: the number, then its symbols.
+// Lists the rule of a number: the number, then its symbols. They are read from the words by index: a part of the words would be one
+// thing more to keep over each call.
 pub fn list_rule(
     words: &[u16],
     starts: &[u16; 256],
@@ -68,23 +69,16 @@ pub fn list_rule(
         (now (sentence .entry)) (now (sentence .exit)) (now (derivation .entry)) (now (derivation .exit)) past r ⌝ }
 {
     put(derivation, past.rules, rule);
-    let symbols = right_of(words, starts, rule);
+    let at = wide(starts[wide(rule)]);
+    let first = at + 2;
+    let end = first + wide(words[at + 1]);
     let mut so = Lengths {
         tokens: past.tokens,
         rules: past.rules + 1,
     };
-    let mut i = 0;
-    while i < symbols.len() {
-        so = list_symbol(
-            words,
-            starts,
-            table,
-            n,
-            symbols[i],
-            so,
-            sentence,
-            derivation,
-        );
+    let mut i = first;
+    while i < end {
+        so = list_symbol(words, starts, table, n, words[i], so, sentence, derivation);
         i += 1;
     }
     so

@@ -4,18 +4,18 @@
 use native.Mathlib.Omega.{arith}
 use Prim.Native.Nat.{ℕ, _+_, _*_, _-_, _≤_, _<_}
 use mathlib.Core.Path.{ap, _∙_}
-use lib.ListN.{length}
+use lib.ListN.{getD}
 use borrow.Author.Needs.{needs}
 use borrow.Fn.Kinds.{In}
 use borrow.Fn.PlainCycle.{Measures, is, falls, and}
+use Rattle.grammar.specs.Walk.{countAt}
 use Rattle.tables.specs.Table.{entry}
 use Rattle.handout.specs.Listing.{sizeBy, sizesBy, rightOf}
-use Rattle.handout.proofs.Listings.{terminal-size}
-use Rattle.handout.proofs.ListerSteps.{rule-stands, table-long, Turn, tokens-kept, rules-kept, turns-begin, turn-goes-on, token-listed}
-use Rattle.handout.proofs.ListerSteps.{symbol-ready, symbol-smaller, rule-listed, rule-ready, rule-smaller, chosen-listed}
+use Rattle.handout.proofs.Listings.{terminal-size, number-low}
+use Rattle.handout.proofs.ListerSteps.{rule-stands, table-long, tokens-kept, rules-kept, RuleTurn, rule-begins, rule-falls, rule-next}
+use Rattle.handout.proofs.ListerSteps.{rule-goes-on, rule-ends, token-listed, rule-ready, rule-smaller, chosen-listed}
 use Rattle.cells.proofs.put.Reads as put
 use Rattle.cells.proofs.wide.Reads as wide
-use Rattle.handout.proofs.lister.right_of.Reads as right-of
 use Rattle.handout.proofs.lister.list_rule.Reads as rule
 use Rattle.handout.proofs.lister.list_rule.Kinds as rule-kinds
 use Rattle.handout.proofs.lister.list_symbol.Reads as symbol
@@ -46,75 +46,184 @@ symbol-below t = and 5 symbol-kinds.ps (falls 5 symbol-kinds.ps _<_ μ-symbol t)
 
 -- what the functions that each calls ask and ensure
 abbrev rule-calls : ℕ → rule-lts.Claims
-rule-calls t = (put.Asked, put.Learnt, right-of.Asked, right-of.Learnt, symbol-below t, symbol.Post)
+rule-calls t = (put.Asked, put.Learnt, wide.Asked, wide.Learnt, symbol-below t, symbol.Post)
 
 abbrev symbol-calls : ℕ → symbol-lts.Claims
 symbol-calls t = (wide.Asked, wide.Learnt, put.Asked, put.Learnt, rule-below t, rule.Post)
 
 abbrev Inv-loop : rule-lts.InvT-loop
-Inv-loop words starts table n rule sentence₀ derivation₀ symbols so₀ i₀ sentence derivation so i =
-    Turn words starts table n symbols sentence₀ sentence derivation₀ derivation so₀ so i
+Inv-loop words starts table n rule sentence₀ derivation₀ at first end so₀ i₀ sentence derivation so i =
+    RuleTurn words starts table n rule first sentence₀ sentence derivation₀ derivation so₀ so i
 
 abbrev μ-loop : rule-lts.MeasureT-loop
-μ-loop words starts table n rule sentence₀ derivation₀ symbols so₀ i₀ sentence derivation so i = length symbols - i
+μ-loop words starts table n rule sentence₀ derivation₀ at first end so₀ i₀ sentence derivation so i = end - i
 
 rule-put-requires : (t : ℕ) → rule-lts.Need-put-requires (rule-calls t) (rule-at t) rule.Post Inv-loop μ-loop
 rule-put-requires t c κs = search needs
 
-rule-right-of-requires : (t : ℕ) → rule-lts.Need-right-of-requires (rule-calls t) (rule-at t) rule.Post Inv-loop μ-loop
-rule-right-of-requires t c κs =
-    let ready = c .before .before .before .before .before .before .before .before .pre .1 in
-    rule-stands (ready .known) (ready .number)
+rule-wide-requires : (t : ℕ) → rule-lts.Need-wide-requires (rule-calls t) (rule-at t) rule.Post Inv-loop μ-loop
+rule-wide-requires t c κs = search needs
 
-rule-add-t15 : (t : ℕ) → rule-lts.Need-add-t15 (rule-calls t) (rule-at t) rule.Post Inv-loop μ-loop
-rule-add-t15 t c =
-    omega (arith, c .before .before .before .before .before .before .before .before .before .before .pre .1 .few)
+rule-mul-wide : (t : ℕ) → rule-lts.Need-mul-wide (rule-calls t) (rule-at t) rule.Post Inv-loop μ-loop
+rule-mul-wide t c =
+    let ready = c .before .before .before .before .before .before .before .before .before .pre .1 in
+    omega (arith, c .wide .ensures, number-low (ready .known) (ready .number))
+
+rule-element-copy-out-wide : (t : ℕ) →
+    rule-lts.Need-element-copy-out-wide (rule-calls t) (rule-at t) rule.Post Inv-loop μ-loop
+rule-element-copy-out-wide t c =
+    let ready = c .before .before .before .before .before .before .before .before .before .pre .1 in
+    omega (arith, c .wide .ensures, number-low (ready .known) (ready .number))
+
+rule-wide-requires-2 : (t : ℕ) → rule-lts.Need-wide-requires-2 (rule-calls t) (rule-at t) rule.Post Inv-loop μ-loop
+rule-wide-requires-2 t c κs = search needs
+
+rule-add-first : (t : ℕ) → rule-lts.Need-add-first (rule-calls t) (rule-at t) rule.Post Inv-loop μ-loop
+rule-add-first t c =
+    let start = c .before .before .before .before .before .before .before .before .before .before .before in
+    let ready = start .pre .1 in
+    let stands = rule-stands (ready .known) (ready .number) in
+    let at = c .wide2 .ensures ∙ ap (λ (k : ℕ). getD (start .args .starts .now) k 0) (c .before .before .wide .ensures) in
+    omega (arith, at, stands .few, stands .whole)
+
+rule-add-wide : (t : ℕ) → rule-lts.Need-add-wide (rule-calls t) (rule-at t) rule.Post Inv-loop μ-loop
+rule-add-wide t c =
+    let start = c .before .before .before .before .before .before .before .before .before .before .before in
+    let ready = start .pre .1 in
+    let stands = rule-stands (ready .known) (ready .number) in
+    let at = c .wide2 .ensures ∙ ap (λ (k : ℕ). getD (start .args .starts .now) k 0) (c .before .before .wide .ensures) in
+    omega (arith, at, stands .few, stands .whole)
+
+rule-mul-wide-2 : (t : ℕ) → rule-lts.Need-mul-wide-2 (rule-calls t) (rule-at t) rule.Post Inv-loop μ-loop
+rule-mul-wide-2 t c =
+    let start = c .before .before .before .before .before .before .before .before .before .before .before in
+    let ready = start .pre .1 in
+    let stands = rule-stands (ready .known) (ready .number) in
+    let at = c .wide2 .ensures ∙ ap (λ (k : ℕ). getD (start .args .starts .now) k 0) (c .before .before .wide .ensures) in
+    omega (arith, at, stands .few, stands .whole)
+
+rule-shared-slice-read-wide : (t : ℕ) →
+    rule-lts.Need-shared-slice-read-wide (rule-calls t) (rule-at t) rule.Post Inv-loop μ-loop
+rule-shared-slice-read-wide t c =
+    let start = c .before .before .before .before .before .before .before .before .before .before .before .before in
+    let ready = start .pre .1 in
+    let stands = rule-stands (ready .known) (ready .number) in
+    let at = c .before .wide2 .ensures ∙ ap (λ (k : ℕ). getD (start .args .starts .now) k 0) (c .before .before .before .wide .ensures) in
+    omega (arith, at, stands .few, stands .whole)
+
+rule-wide-requires-3 : (t : ℕ) → rule-lts.Need-wide-requires-3 (rule-calls t) (rule-at t) rule.Post Inv-loop μ-loop
+rule-wide-requires-3 t c κs = search needs
+
+rule-add-end : (t : ℕ) → rule-lts.Need-add-end (rule-calls t) (rule-at t) rule.Post Inv-loop μ-loop
+rule-add-end t c =
+    let start = c .before .before .before .before .before .before .before .before .before .before .before .before .before in
+    let ready = start .pre .1 in
+    let stands = rule-stands (ready .known) (ready .number) in
+    let at = c .before .before .wide2 .ensures ∙ ap (λ (k : ℕ). getD (start .args .starts .now) k 0) (c .before .before .before .before .wide .ensures) in
+    let first = ap (λ (j : ℕ). j + 2) at in
+    let count = c .wide3 .ensures ∙ ap (λ (j : ℕ). countAt (start .args .words .now) j) at in
+    let end = ap (λ (j : ℕ). c .before .before .wide2 .result + 2 + j) count in
+    omega (arith, at, count, stands .few, stands .whole)
+
+rule-add-t17 : (t : ℕ) → rule-lts.Need-add-t17 (rule-calls t) (rule-at t) rule.Post Inv-loop μ-loop
+rule-add-t17 t c =
+    omega (arith, c .before .before .before .before .before .before .before .before .before .before .before .before .before .before .pre .1 .few)
 
 rule-loop-holds : (t : ℕ) → rule-lts.Need-loop-holds (rule-calls t) (rule-at t) rule.Post Inv-loop μ-loop
 rule-loop-holds t c =
-    let a = c .before .before .before .before .before .before .before .before .before .before .args in
-    turns-begin (a .words .now) (a .starts .now) (a .table .now) (a .n) _ _ _ _
+    let start = c .before .before .before .before .before .before .before .before .before .before .before .before .before .before in
+    let ready = start .pre .1 in
+    let stands = rule-stands (ready .known) (ready .number) in
+    let at = c .before .before .before .wide2 .ensures ∙ ap (λ (k : ℕ). getD (start .args .starts .now) k 0) (c .before .before .before .before .before .wide .ensures) in
+    let first = ap (λ (j : ℕ). j + 2) at in
+    let count = c .before .wide3 .ensures ∙ ap (λ (j : ℕ). countAt (start .args .words .now) j) at in
+    let end = ap (λ (j : ℕ). c .before .before .before .wide2 .result + 2 + j) count in
+    rule-begins stands first end (start .args .table .now) (start .args .n) _ _ _
 
 rule-mul-list-symbol : (t : ℕ) → rule-lts.Need-mul-list-symbol (rule-calls t) (rule-at t) rule.Post Inv-loop μ-loop
-rule-mul-list-symbol t c = search needs
+rule-mul-list-symbol t c =
+    let start = c .before .before .before .before .before .before .before .before .before .before .before .before .before .before .before .before in
+    let ready = start .pre .1 in
+    let stands = rule-stands (ready .known) (ready .number) in
+    let at = c .before .before .before .before .before .wide2 .ensures ∙ ap (λ (k : ℕ). getD (start .args .starts .now) k 0) (c .before .before .before .before .before .before .before .wide .ensures) in
+    let first = ap (λ (j : ℕ). j + 2) at in
+    let count = c .before .before .before .wide3 .ensures ∙ ap (λ (j : ℕ). countAt (start .args .words .now) j) at in
+    let end = ap (λ (j : ℕ). c .before .before .before .before .before .wide2 .result + 2 + j) count in
+    omega (arith, at, count, stands .few, stands .whole, c .loop-test .taken)
 
 rule-shared-slice-read-list-symbol : (t : ℕ) →
     rule-lts.Need-shared-slice-read-list-symbol (rule-calls t) (rule-at t) rule.Post Inv-loop μ-loop
-rule-shared-slice-read-list-symbol t c = search needs
+rule-shared-slice-read-list-symbol t c =
+    let start = c .before .before .before .before .before .before .before .before .before .before .before .before .before .before .before .before .before in
+    let ready = start .pre .1 in
+    let stands = rule-stands (ready .known) (ready .number) in
+    let at = c .before .before .before .before .before .before .wide2 .ensures ∙ ap (λ (k : ℕ). getD (start .args .starts .now) k 0) (c .before .before .before .before .before .before .before .before .wide .ensures) in
+    let first = ap (λ (j : ℕ). j + 2) at in
+    let count = c .before .before .before .before .wide3 .ensures ∙ ap (λ (j : ℕ). countAt (start .args .words .now) j) at in
+    let end = ap (λ (j : ℕ). c .before .before .before .before .before .before .wide2 .result + 2 + j) count in
+    omega (arith, at, count, stands .whole, c .before .loop-test .taken)
 
 rule-list-symbol-requires : (t : ℕ) → rule-lts.Need-list-symbol-requires (rule-calls t) (rule-at t) rule.Post Inv-loop μ-loop
 rule-list-symbol-requires t c κs =
-    let start = c .before .before .before .before .before .before .before .before .before .before .before .before .before .before .before in
+    let start = c .before .before .before .before .before .before .before .before .before .before .before .before .before .before .before .before .before .before .before in
+    let ready = start .pre .1 in
+    let stands = rule-stands (ready .known) (ready .number) in
+    let at = c .before .before .before .before .before .before .before .before .wide2 .ensures ∙ ap (λ (k : ℕ). getD (start .args .starts .now) k 0) (c .before .before .before .before .before .before .before .before .before .before .wide .ensures) in
+    let first = ap (λ (j : ℕ). j + 2) at in
+    let count = c .before .before .before .before .before .before .wide3 .ensures ∙ ap (λ (j : ℕ). countAt (start .args .words .now) j) at in
+    let end = ap (λ (j : ℕ). c .before .before .before .before .before .before .before .before .wide2 .result + 2 + j) count in
     let a = start .args in
-    let right = c .before .before .before .before .before .before .right-of .ensures in
     let loop = c .before .before .before .before .loop in
     let test = c .before .before .before .loop-test .taken in
-    let less = symbol-smaller (a .words .now) (a .starts .now) (a .table .now) (a .n) (a .rule) (loop .i) _ right test in
-    (omega (arith, start .pre .0), symbol-ready right (start .pre .1) (loop .inv) test)
+    let less = rule-falls stands first end (a .table .now) (a .n) (loop .i) (loop .inv .0) test in
+    (omega (arith, start .pre .0), rule-next stands first end (a .table .now) (a .n) ready (loop .inv) test)
 
 rule-add-i : (t : ℕ) → rule-lts.Need-add-i (rule-calls t) (rule-at t) rule.Post Inv-loop μ-loop
-rule-add-i t c = search needs
+rule-add-i t c =
+    let start = c .before .before .before .before .before .before .before .before .before .before .before .before .before .before .before .before .before .before .before .before .before .before .before .before in
+    let ready = start .pre .1 in
+    let stands = rule-stands (ready .known) (ready .number) in
+    let at = c .before .before .before .before .before .before .before .before .before .before .before .before .before .wide2 .ensures ∙ ap (λ (k : ℕ). getD (start .args .starts .now) k 0) (c .before .before .before .before .before .before .before .before .before .before .before .before .before .before .before .wide .ensures) in
+    let first = ap (λ (j : ℕ). j + 2) at in
+    let count = c .before .before .before .before .before .before .before .before .before .before .before .wide3 .ensures ∙ ap (λ (j : ℕ). countAt (start .args .words .now) j) at in
+    let end = ap (λ (j : ℕ). c .before .before .before .before .before .before .before .before .before .before .before .before .before .wide2 .result + 2 + j) count in
+    omega (arith, at, count, stands .few, stands .whole, c .before .before .before .before .before .before .before .before .loop-test .taken)
 
 rule-loop-less : (t : ℕ) → rule-lts.Need-loop-less (rule-calls t) (rule-at t) rule.Post Inv-loop μ-loop
 rule-loop-less t c = search needs
 
 rule-loop-again : (t : ℕ) → rule-lts.Need-loop-again (rule-calls t) (rule-at t) rule.Post Inv-loop μ-loop
 rule-loop-again t c =
-    turn-goes-on (c .before .before .before .before .before .before .before .before .before .loop .inv) (c .before .before .before .before .before .before .before .before .loop-test .taken) (c .before .before .before .before .list-symbol .ensures)
+    let start = c .before .before .before .before .before .before .before .before .before .before .before .before .before .before .before .before .before .before .before .before .before .before .before .before in
+    let ready = start .pre .1 in
+    let stands = rule-stands (ready .known) (ready .number) in
+    let at = c .before .before .before .before .before .before .before .before .before .before .before .before .before .wide2 .ensures ∙ ap (λ (k : ℕ). getD (start .args .starts .now) k 0) (c .before .before .before .before .before .before .before .before .before .before .before .before .before .before .before .wide .ensures) in
+    let first = ap (λ (j : ℕ). j + 2) at in
+    let count = c .before .before .before .before .before .before .before .before .before .before .before .wide3 .ensures ∙ ap (λ (j : ℕ). countAt (start .args .words .now) j) at in
+    let end = ap (λ (j : ℕ). c .before .before .before .before .before .before .before .before .before .before .before .before .before .wide2 .result + 2 + j) count in
+    rule-goes-on stands first end (start .args .table .now) (start .args .n) (c .before .before .before .before .before .before .before .before .before .loop .inv) (c .before .before .before .before .before .before .before .before .loop-test .taken)
+    (c .before .before .before .before .list-symbol .ensures)
 
 rule-same-length : (t : ℕ) → rule-lts.Need-same-length (rule-calls t) (rule-at t) rule.Post Inv-loop μ-loop
 rule-same-length t c =
-    let ready = c .before .before .before .before .before .before .before .before .before .before .before .before .pre .1 in
-    tokens-kept (c .before .loop .inv .done .listed (ready .g) (ready .known))
+    let ready = c .before .before .before .before .before .before .before .before .before .before .before .before .before .before .before .before .pre .1 in
+    tokens-kept (c .before .loop .inv .1 .done .listed (ready .g) (ready .known))
 
 rule-same-length-2 : (t : ℕ) → rule-lts.Need-same-length-2 (rule-calls t) (rule-at t) rule.Post Inv-loop μ-loop
 rule-same-length-2 t c =
-    let ready = c .before .before .before .before .before .before .before .before .before .before .before .before .pre .1 in
-    rules-kept (c .before .loop .inv .done .listed (ready .g) (ready .known)) ∙ c .before .before .before .before .before .before .put .kept .0
+    let ready = c .before .before .before .before .before .before .before .before .before .before .before .before .before .before .before .before .pre .1 in
+    rules-kept (c .before .loop .inv .1 .done .listed (ready .g) (ready .known)) ∙ c .before .before .before .before .before .before .before .before .before .before .put .kept .0
 
 rule-returns : (t : ℕ) → rule-lts.Need-returns (rule-calls t) (rule-at t) rule.Post Inv-loop μ-loop
 rule-returns t c =
-    rule-listed (c .before .before .before .right-of .ensures) (c .before .before .before .before .before .before .put .ensures) (c .before .loop .inv) (c .loop-test .left)
+    let start = c .before .before .before .before .before .before .before .before .before .before .before .before .before .before .before .before in
+    let ready = start .pre .1 in
+    let stands = rule-stands (ready .known) (ready .number) in
+    let at = c .before .before .before .before .before .wide2 .ensures ∙ ap (λ (k : ℕ). getD (start .args .starts .now) k 0) (c .before .before .before .before .before .before .before .wide .ensures) in
+    let first = ap (λ (j : ℕ). j + 2) at in
+    let count = c .before .before .before .wide3 .ensures ∙ ap (λ (j : ℕ). countAt (start .args .words .now) j) at in
+    let end = ap (λ (j : ℕ). c .before .before .before .before .before .wide2 .result + 2 + j) count in
+    rule-ends stands first end (start .args .table .now) (start .args .n) (c .before .before .before .before .before .before .before .before .before .before .put .ensures) (c .before .loop .inv) (c .loop-test .left)
 
 symbol-wide-requires : (t : ℕ) → symbol-lts.Need-wide-requires (symbol-calls t) (symbol-at t) symbol.Post
 symbol-wide-requires t c κs = search needs
@@ -191,8 +300,17 @@ pub +list-rule+list-symbol-spec : {M : Type 1} → statement M
     Inv-loop
     μ-loop
     (rule-put-requires t)
-    (rule-right-of-requires t)
-    (rule-add-t15 t)
+    (rule-wide-requires t)
+    (rule-mul-wide t)
+    (rule-element-copy-out-wide t)
+    (rule-wide-requires-2 t)
+    (rule-add-first t)
+    (rule-add-wide t)
+    (rule-mul-wide-2 t)
+    (rule-shared-slice-read-wide t)
+    (rule-wide-requires-3 t)
+    (rule-add-end t)
+    (rule-add-t17 t)
     (rule-loop-holds t)
     (rule-mul-list-symbol t)
     (rule-shared-slice-read-list-symbol t)
