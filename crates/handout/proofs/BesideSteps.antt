@@ -31,17 +31,16 @@ module _ {words starts table : List ℕ} {n A : ℕ} {p : Lengths} {symbols : Li
     front-is : take i symbols ≡ frontOf words starts table A
     front-is = rw (ei, is)
 
-    pub front-listable : SymbolsReady words starts table n (take i symbols) (oneRule p)
-    front-listable = record {
+    pub front-listable : {p₁ : Lengths} → p₁ ≡ oneRule p → SymbolsReady words starts table n (take i symbols) p₁
+    front-listable one = rw one (record {
       g = ready .g;
       known = ready .beside .known;
       few = omega (arith, ready .few, ap (sizesBy n table) front-is);
-    }
+    })
 
-    pub front-written : {a b x x₁ y : List ℕ} {q : Lengths} → x₁ ≡ set x (p .rules) (entry table A 3) →
-        SymbolsWritten words starts table n (take i symbols) a b x₁ y (oneRule p) q →
-        FrontWritten words starts table n A a b x y p q
-    front-written e h = numbered e (rw front-is at h)
+    pub front-written : {a b x x₁ y : List ℕ} {p₁ q : Lengths} → p₁ ≡ oneRule p → x₁ ≡ set x (p .rules) (entry table A 3) →
+        SymbolsWritten words starts table n (take i symbols) a b x₁ y p₁ q → FrontWritten words starts table n A a b x y p q
+    front-written one e h = numbered one e (rw front-is at h)
 
   -- after it
   module _ {i : ℕ} (ready : BackReady words starts table n A p) (ei : i ≡ entry table A 4) where

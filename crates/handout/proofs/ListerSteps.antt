@@ -1,12 +1,13 @@
 -- What each step of the lister needs and leaves: where a rule stands, a token, a rule's number, one more of some symbols, a
 -- nonterminal by its chosen rule. Assumes nothing.
-use Prim.Native.Nat.{ℕ, _+_, _*_, _-_, _≤_, _<_}
-use native.Mathlib.Nat.{add-zero}
+use Prim.Native.Nat.{ℕ, _+_, _*_, _-_, _/_, _%_, _≤_, _<_}
+use native.Mathlib.Nat.{add-zero, div-add-mod', mod-lt}
 use native.Mathlib.Numerals.{add-one}
 use native.Mathlib.Omega.{arith}
 use mathlib.Core.List.{List, [], _∷_, _++_}
 use mathlib.Core.Path.{_≡_, refl, ap, sym, _∙_}
 use lib.ListN.{length, getD, set, take, drop, length-take, length-drop}
+use lib.Arith.{digits-div, digits-mod}
 use lib.Seq.{length-sets, length-take-le, take-suc, take-all, getD-take, getD-drop}
 use Rattle.grammar.specs.Words.{Grammar, R}
 use Rattle.grammar.specs.Walk.{countAt}
@@ -20,7 +21,7 @@ use Rattle.grammar.proofs.RulesInView.{viewed-rule}
 use Rattle.grammar.proofs.WordsFew.{words-few}
 use Rattle.tables.specs.Table.{entry, tableLength}
 use Rattle.handout.specs.declared.lister.Lengths.{Lengths}
-use Rattle.handout.specs.Listing.{Known, sizeBy, sizesBy, rightOf, Stands, SymbolReady, RuleReady, SymbolsReady, of-terminal}
+use Rattle.handout.specs.Listing.{Known, lengths, sizeBy, sizesBy, rightOf, Stands, SymbolReady, RuleReady, SymbolsReady, of-terminal}
 use Rattle.handout.specs.Listing.{of-nonterminal, SymbolsListed, RuleListed, Wrote, Listed, Written, SymbolWritten, RuleWritten}
 use Rattle.handout.specs.Listing.{SymbolsWritten}
 use Rattle.handout.proofs.Listings.{and-then, nothing, one-more, sizes-more, sizes-within, terminal-size, ChosenRule}
@@ -84,6 +85,28 @@ oneRule p = record { tokens = p .tokens; rules = p .rules + 1 }
 abbrev pub oneToken : Lengths → Lengths
 oneToken p = record { tokens = p .tokens + 1; rules = p .rules }
 
+-- one more of either, counted in one number
+module _ (m : ℕ) where
+  pub one-token : lengths (m + 65536) ≡ oneToken (lengths m)
+  one-token =
+      let q = m / 65536 in
+      let r = m % 65536 in
+      let low : r < 65536 = mod-lt m {m = 65536} (omega arith) in
+      let e : m + 65536 ≡ (q + 1) * 65536 + r = omega (arith, div-add-mod' m 65536) in
+      rw e (rw (digits-div (q + 1) low, digits-mod (q + 1) low) refl)
+
+  pub one-rule : m % 65536 < 65535 → lengths (m + 1) ≡ oneRule (lengths m)
+  one-rule few =
+      let q = m / 65536 in
+      let r = m % 65536 in
+      let low : r + 1 < 65536 = omega arith in
+      let e : m + 1 ≡ q * 65536 + (r + 1) = omega (arith, div-add-mod' m 65536) in
+      rw e (rw (digits-div q low, digits-mod q low) refl)
+
+  -- and the number stays small
+  pub few-both : {most : ℕ} → m / 65536 + m % 65536 ≤ most → m ≤ most * 65536
+  few-both h = omega (arith, div-add-mod' m 65536)
+
 module _ (words starts table : List ℕ) (n : ℕ) where
   pub turns-begin : (w a x : List ℕ) (p : Lengths) → Turn words starts table n w a a x x p p 0
   unfolding sizesBy
@@ -100,9 +123,9 @@ module _ (words starts table : List ℕ) (n : ℕ) where
     };
   }
 
-  pub token-listed : (s : ℕ) (a b x : List ℕ) (p : Lengths) → n ≤ s → b ≡ set a (p .tokens) s →
-      SymbolWritten words starts table n s a b x x p (oneToken p)
-  token-listed s a b x p h e = record {
+  pub token-listed : (s : ℕ) (a b x : List ℕ) (p q : Lengths) → n ≤ s → b ≡ set a (p .tokens) s → q ≡ oneToken p →
+      SymbolWritten words starts table n s a b x x p q
+  token-listed s a b x p q h e one = rw one (record {
     counted = omega (arith, terminal-size n table s h);
     listed = λ g k. record {
       us = s ∷ [];
@@ -110,7 +133,7 @@ module _ (words starts table : List ℕ) (n : ℕ) where
       lists = let le : g .N ≤ s = omega (arith, k .view .nonterminals) in of-terminal le;
       wrote = record { more-tokens = refl; more-rules = sym (add-zero (p .rules)); sentence = e; derivation = refl };
     };
-  }
+  })
 
 module _ {words starts table : List ℕ} {n : ℕ} where
   -- one more symbol
@@ -149,13 +172,13 @@ module _ {words starts table : List ℕ} {n : ℕ} where
   symbols-listed {w} {i = i} turn h = rw (take-all i w h) at (turn .done)
 
   -- a rule's number before some symbols
-  pub numbered : {k : ℕ} {w a b x x₁ y : List ℕ} {p q : Lengths} → x₁ ≡ set x (p .rules) k →
-      SymbolsWritten words starts table n w a b x₁ y (oneRule p) q →
+  pub numbered : {k : ℕ} {w a b x x₁ y : List ℕ} {p p₁ q : Lengths} → p₁ ≡ oneRule p → x₁ ≡ set x (p .rules) k →
+      SymbolsWritten words starts table n w a b x₁ y p₁ q →
       Written words starts table n (λ g. RuleListed g k w) (1 + sizesBy n table w) a b x y p q
-  numbered {k} {w} {a} {b} {x} {x₁} {y} {p} {q} e h = record {
-    counted = omega (arith, h .counted);
+  numbered {k} {w} {a} {b} {x} {x₁} {y} {p} {p₁} {q} one e h = record {
+    counted = omega (arith, behind .counted);
     listed = λ g known.
-        let so = h .listed g known in
+        let so = behind .listed g known in
         record {
           us = so .us;
           vs = k ∷ so .vs;
@@ -164,6 +187,9 @@ module _ {words starts table : List ℕ} {n : ℕ} where
         };
   }
     where
+      behind : SymbolsWritten words starts table n w a b x₁ y (oneRule p) q
+      behind = rw one at h
+
       number : Wrote [] (k ∷ []) a a x x₁ p (oneRule p)
       number = record { more-tokens = sym (add-zero (p .tokens)); more-rules = refl; sentence = refl; derivation = e }
 
@@ -244,13 +270,16 @@ module _ {words starts : List ℕ} {k : ℕ} (stands : Stands words starts k) wh
 
       -- it can be listed, and is
       module _ {a b x y : List ℕ} {p q : Lengths} {i : ℕ} where
-        pub rule-next : RuleReady words starts table n k p → RuleTurn words starts table n k first a b x y (oneRule p) q i → i < end →
-            SymbolReady words starts table n (getD words i 0) q
-        rule-next ready (l, turn) h = record {
-          g = ready .g;
-          known = ready .known;
-          few = omega (arith, ready .few, turn .done .counted, next-within i l h);
-        }
+        pub rule-next : {past : Lengths} → RuleReady words starts table n k past → p ≡ oneRule past →
+            RuleTurn words starts table n k first a b x y p q i → i < end → SymbolReady words starts table n (getD words i 0) q
+        rule-next ready one (l, turn) h =
+            let tokens = ap (λ (m : Lengths). m .tokens) one in
+            let rules = ap (λ (m : Lengths). m .rules) one in
+            record {
+              g = ready .g;
+              known = ready .known;
+              few = omega (arith, ready .few, turn .done .counted, next-within i l h, tokens, rules);
+            }
 
         pub rule-goes-on : {c z : List ℕ} {r : Lengths} → RuleTurn words starts table n k first a b x y p q i → i < end →
             SymbolWritten words starts table n (getD words i 0) b c y z q r →
@@ -260,6 +289,6 @@ module _ {words starts : List ℕ} {k : ℕ} (stands : Stands words starts k) wh
             (omega arith, rw step (turn-goes-on turn (omega (arith, right-count, ee)) (rw (symbol-read i l h) at one)))
 
       -- after the last one, with the rule's number before them
-      pub rule-ends : {a b x x₁ y : List ℕ} {p q : Lengths} {i : ℕ} → x₁ ≡ set x (p .rules) k →
-          RuleTurn words starts table n k first a b x₁ y (oneRule p) q i → end ≤ i → RuleWritten words starts table n k a b x y p q
-      rule-ends e (l, turn) h = numbered e (symbols-listed turn (omega (arith, right-count, ee)))
+      pub rule-ends : {a b x x₁ y : List ℕ} {p p₁ q : Lengths} {i : ℕ} → p₁ ≡ oneRule p → x₁ ≡ set x (p .rules) k →
+          RuleTurn words starts table n k first a b x₁ y p₁ q i → end ≤ i → RuleWritten words starts table n k a b x y p q
+      rule-ends one e (l, turn) h = numbered one e (symbols-listed turn (omega (arith, right-count, ee)))

@@ -2,7 +2,7 @@
 --   "A tree is listed from the left: a symbol's listing is its rule's listing (a terminal's is itself); a rule's listing is its
 --    number, then its symbols' listings in order. The terminals in that order are the sentence, the rule numbers the derivation."
 -- Nobody has to believe this file; the promises do not cite it. Assumes nothing.
-use Prim.Native.Nat.{ℕ, _+_, _≤_, _<_}
+use Prim.Native.Nat.{ℕ, _+_, _/_, _%_, _≤_, _<_}
 use mathlib.Core.Path.{_≡_}
 use mathlib.Core.List.{List, [], _∷_}
 use lib.Dec.{ltb}
@@ -35,6 +35,10 @@ sizesBy n table (s ∷ w) = sizeBy n table s + sizesBy n table w
 -- the right side of rule k
 abbrev pub rightOf : List ℕ → List ℕ → ℕ → List ℕ
 rightOf words starts k = rightAt words (getD starts k 0)
+
+-- so many tokens and rule numbers in one number: 65,536 for each token, 1 for each rule number
+abbrev pub lengths : ℕ → Lengths
+lengths m = record { tokens = m / 65536; rules = m % 65536 }
 
 -- where the starts say, a rule stands whole in the words
 pub record Stands (words starts : List ℕ) (k : ℕ) : Type 0 where

@@ -2,16 +2,19 @@
 // calls that for a rule, which calls back for each symbol, on falling sizes: the size of a nonterminal is 1 plus those of its chosen
 // rule's symbols.
 ghost use mathlib.Core.Path.{_≡_};
-ghost use Rattle.handout.specs.Listing.{rightOf, Stands, SymbolReady, RuleReady, SymbolsReady};
+ghost use Rattle.handout.specs.Listing.{rightOf, Stands, lengths, SymbolReady, RuleReady, SymbolsReady};
 ghost use Rattle.handout.specs.Listing.{SymbolWritten, RuleWritten, SymbolsWritten};
 use cells::put;
 use cells::wide;
 
-// How many rule numbers and how many tokens are listed so far, whether or not there was room for them. An answer has them the other
-// way round: in its order the compiler would copy both at once, and the copy wait until both are stored.
+// What is listed so far, whether or not there was room for it, is counted in one number: 65,536 for each token and 1 for each rule number, of
+// which there are never that many. A call returns one number in a register, and two through memory.
+pub const TOKEN: usize = 65536;
+
+// How many tokens and how many rule numbers were listed.
 pub struct Lengths {
-    pub rules: usize,
     pub tokens: usize,
+    pub rules: usize,
 }
 
 // The symbols of the rule of a number.
@@ -32,21 +35,19 @@ pub fn list_symbol(
     table: &[u16],
     n: usize,
     s: u16,
-    past: Lengths,
+    past: usize,
     sentence: &mut [u16],
     derivation: &mut [u16],
-) -> Lengths
-    requires { ⌜ SymbolReady (now words) (now starts) (now table) n s past ⌝ }
+) -> usize
+    requires { ⌜ SymbolReady (now words) (now starts) (now table) n s (lengths past) ⌝ }
     ensures { λ r. ⌜ SymbolWritten (now (words .entry)) (now (starts .entry)) (now (table .entry)) n s
-        (now (sentence .entry)) (now (sentence .exit)) (now (derivation .entry)) (now (derivation .exit)) past r ⌝ }
+        (now (sentence .entry)) (now (sentence .exit)) (now (derivation .entry)) (now (derivation .exit))
+        (lengths past) (lengths r) ⌝ }
 {
     let a = wide(s);
     if n <= a {
-        put(sentence, past.tokens, s);
-        return Lengths {
-            tokens: past.tokens + 1,
-            rules: past.rules,
-        };
+        put(sentence, past / TOKEN, s);
+        return past + TOKEN;
     }
     let chosen = table[5 * a + 1];
     list_rule(words, starts, table, n, chosen, past, sentence, derivation)
@@ -60,22 +61,20 @@ pub fn list_rule(
     table: &[u16],
     n: usize,
     rule: u16,
-    past: Lengths,
+    past: usize,
     sentence: &mut [u16],
     derivation: &mut [u16],
-) -> Lengths
-    requires { ⌜ RuleReady (now words) (now starts) (now table) n rule past ⌝ }
+) -> usize
+    requires { ⌜ RuleReady (now words) (now starts) (now table) n rule (lengths past) ⌝ }
     ensures { λ r. ⌜ RuleWritten (now (words .entry)) (now (starts .entry)) (now (table .entry)) n rule
-        (now (sentence .entry)) (now (sentence .exit)) (now (derivation .entry)) (now (derivation .exit)) past r ⌝ }
+        (now (sentence .entry)) (now (sentence .exit)) (now (derivation .entry)) (now (derivation .exit))
+        (lengths past) (lengths r) ⌝ }
 {
-    put(derivation, past.rules, rule);
+    put(derivation, past % TOKEN, rule);
     let at = wide(starts[wide(rule)]);
     let first = at + 2;
     let end = first + wide(words[at + 1]);
-    let mut so = Lengths {
-        tokens: past.tokens,
-        rules: past.rules + 1,
-    };
+    let mut so = past + 1;
     let mut i = first;
     while i < end {
         so = list_symbol(words, starts, table, n, words[i], so, sentence, derivation);
@@ -91,13 +90,14 @@ pub fn list_symbols(
     table: &[u16],
     n: usize,
     symbols: &[u16],
-    past: Lengths,
+    past: usize,
     sentence: &mut [u16],
     derivation: &mut [u16],
-) -> Lengths
-    requires { ⌜ SymbolsReady (now words) (now starts) (now table) n (now symbols) past ⌝ }
+) -> usize
+    requires { ⌜ SymbolsReady (now words) (now starts) (now table) n (now symbols) (lengths past) ⌝ }
     ensures { λ r. ⌜ SymbolsWritten (now (words .entry)) (now (starts .entry)) (now (table .entry)) n (now (symbols .entry))
-        (now (sentence .entry)) (now (sentence .exit)) (now (derivation .entry)) (now (derivation .exit)) past r ⌝ }
+        (now (sentence .entry)) (now (sentence .exit)) (now (derivation .entry)) (now (derivation .exit))
+        (lengths past) (lengths r) ⌝ }
 {
     let mut so = past;
     let mut i = 0;

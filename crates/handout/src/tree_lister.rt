@@ -1,10 +1,11 @@
 // The tree lister: lists the tree of a rule. Context choices lead from the rule's left side up to the start; what lies before the rule
 // is listed from the start down, then the rule, then what lies after it from the rule up. The nonterminals on the way up are noted on a
 // path: contexts fall from each to the next, so that none comes twice.
-ghost use Rattle.handout.specs.Listing.{SymbolsWritten};
+ghost use Rattle.handout.specs.Listing.{lengths, SymbolsWritten};
 ghost use Rattle.handout.specs.TreeListing.{ClimbReady, PathOf, FrontReady, BackReady, FrontWritten, backOf};
 ghost use Rattle.handout.specs.TreeListing.{before, after, WayReady, WayWritten, TreeReady, TreeWritten, none-so-far};
 use crate::lister::Lengths;
+use crate::lister::TOKEN;
 use crate::lister::list_rule;
 use crate::lister::list_symbols;
 use crate::lister::right_of;
@@ -53,21 +54,18 @@ fn list_front(
     table: &[u16],
     n: usize,
     a: usize,
-    past: Lengths,
+    past: usize,
     sentence: &mut [u16],
     derivation: &mut [u16],
-) -> Lengths
-    requires { ⌜ FrontReady (now words) (now starts) (now table) n a past ⌝ }
+) -> usize
+    requires { ⌜ FrontReady (now words) (now starts) (now table) n a (lengths past) ⌝ }
     ensures { λ r. ⌜ FrontWritten (now (words .entry)) (now (starts .entry)) (now (table .entry)) n a
-        (now (sentence .entry)) (now (sentence .exit)) (now (derivation .entry)) (now (derivation .exit)) past r ⌝ }
+        (now (sentence .entry)) (now (sentence .exit)) (now (derivation .entry)) (now (derivation .exit))
+        (lengths past) (lengths r) ⌝ }
 {
     let rule = table[5 * a + 3];
     let place = wide(table[5 * a + 4]);
-    put(derivation, past.rules, rule);
-    let numbered = Lengths {
-        tokens: past.tokens,
-        rules: past.rules + 1,
-    };
+    put(derivation, past % TOKEN, rule);
     let symbols = right_of(words, starts, rule);
     list_symbols(
         words,
@@ -75,7 +73,7 @@ fn list_front(
         table,
         n,
         &symbols[..place],
-        numbered,
+        past + 1,
         sentence,
         derivation,
     )
@@ -91,15 +89,13 @@ fn list_before(
     steps: usize,
     sentence: &mut [u16],
     derivation: &mut [u16],
-) -> Lengths
+) -> usize
     requires { ⌜ WayReady before (now words) (now starts) (now table) n (now path) steps none-so-far ⌝ }
     ensures { λ r. ⌜ WayWritten before (now (words .entry)) (now (starts .entry)) (now (table .entry)) n (now (path .entry)) steps
-        (now (sentence .entry)) (now (sentence .exit)) (now (derivation .entry)) (now (derivation .exit)) none-so-far r ⌝ }
+        (now (sentence .entry)) (now (sentence .exit)) (now (derivation .entry)) (now (derivation .exit)) none-so-far
+        (lengths r) ⌝ }
 {
-    let mut so = Lengths {
-        tokens: 0,
-        rules: 0,
-    };
+    let mut so: usize = 0;
     let mut i = steps;
     while 0 < i {
         i -= 1;
@@ -124,14 +120,15 @@ fn list_back(
     table: &[u16],
     n: usize,
     a: usize,
-    past: Lengths,
+    past: usize,
     sentence: &mut [u16],
     derivation: &mut [u16],
-) -> Lengths
-    requires { ⌜ BackReady (now words) (now starts) (now table) n a past ⌝ }
+) -> usize
+    requires { ⌜ BackReady (now words) (now starts) (now table) n a (lengths past) ⌝ }
     ensures { λ r. ⌜ SymbolsWritten (now (words .entry)) (now (starts .entry)) (now (table .entry)) n
         (backOf (now (words .entry)) (now (starts .entry)) (now (table .entry)) a) (now (sentence .entry)) (now (sentence .exit))
-        (now (derivation .entry)) (now (derivation .exit)) past r ⌝ }
+        (now (derivation .entry)) (now (derivation .exit))
+        (lengths past) (lengths r) ⌝ }
 {
     let symbols = right_of(words, starts, table[5 * a + 3]);
     let next = wide(table[5 * a + 4]) + 1;
@@ -155,13 +152,14 @@ fn list_after(
     n: usize,
     path: &[u16],
     steps: usize,
-    past: Lengths,
+    past: usize,
     sentence: &mut [u16],
     derivation: &mut [u16],
-) -> Lengths
-    requires { ⌜ WayReady after (now words) (now starts) (now table) n (now path) steps past ⌝ }
+) -> usize
+    requires { ⌜ WayReady after (now words) (now starts) (now table) n (now path) steps (lengths past) ⌝ }
     ensures { λ r. ⌜ WayWritten after (now (words .entry)) (now (starts .entry)) (now (table .entry)) n (now (path .entry)) steps
-        (now (sentence .entry)) (now (sentence .exit)) (now (derivation .entry)) (now (derivation .exit)) past r ⌝ }
+        (now (sentence .entry)) (now (sentence .exit)) (now (derivation .entry)) (now (derivation .exit))
+        (lengths past) (lengths r) ⌝ }
 {
     let mut so = past;
     let mut i = 0;
@@ -211,7 +209,7 @@ pub fn list_tree(
         sentence,
         derivation,
     );
-    list_after(
+    let all = list_after(
         words,
         starts,
         table,
@@ -221,5 +219,9 @@ pub fn list_tree(
         under,
         sentence,
         derivation,
-    )
+    );
+    Lengths {
+        tokens: all / TOKEN,
+        rules: all % TOKEN,
+    }
 }

@@ -10,10 +10,10 @@ use borrow.Fn.Kinds.{In}
 use borrow.Fn.PlainCycle.{Measures, is, falls, and}
 use Rattle.grammar.specs.Walk.{countAt}
 use Rattle.tables.specs.Table.{entry}
-use Rattle.handout.specs.Listing.{sizeBy, sizesBy, rightOf}
-use Rattle.handout.proofs.Listings.{terminal-size, number-low}
+use Rattle.handout.specs.Listing.{lengths, sizeBy, sizesBy, rightOf}
+use Rattle.handout.proofs.Listings.{number-low}
 use Rattle.handout.proofs.ListerSteps.{rule-stands, table-long, tokens-kept, rules-kept, RuleTurn, rule-begins, rule-falls, rule-next}
-use Rattle.handout.proofs.ListerSteps.{rule-goes-on, rule-ends, token-listed, rule-ready, rule-smaller, chosen-listed}
+use Rattle.handout.proofs.ListerSteps.{one-token, one-rule, few-both, rule-goes-on, rule-ends, token-listed, rule-ready, rule-smaller, chosen-listed}
 use Rattle.cells.proofs.put.Reads as put
 use Rattle.cells.proofs.wide.Reads as wide
 use Rattle.handout.proofs.lister.list_rule.Reads as rule
@@ -52,11 +52,11 @@ abbrev symbol-calls : ℕ → symbol-lts.Claims
 symbol-calls t = (wide.Asked, wide.Learnt, put.Asked, put.Learnt, rule-below t, rule.Post)
 
 abbrev Inv-loop : rule-lts.InvT-loop
-Inv-loop words starts table n rule sentence₀ derivation₀ at first end so₀ i₀ sentence derivation so i =
-    RuleTurn words starts table n rule first sentence₀ sentence derivation₀ derivation so₀ so i
+Inv-loop words starts table n rule past sentence₀ derivation₀ at first end so₀ i₀ sentence derivation so i =
+    RuleTurn words starts table n rule first sentence₀ sentence derivation₀ derivation (lengths so₀) (lengths so) i
 
 abbrev μ-loop : rule-lts.MeasureT-loop
-μ-loop words starts table n rule sentence₀ derivation₀ at first end so₀ i₀ sentence derivation so i = end - i
+μ-loop words starts table n rule past sentence₀ derivation₀ at first end so₀ i₀ sentence derivation so i = end - i
 
 rule-put-requires : (t : ℕ) → rule-lts.Need-put-requires (rule-calls t) (rule-at t) rule.Post Inv-loop μ-loop
 rule-put-requires t c κs = search needs
@@ -125,23 +125,36 @@ rule-add-end t c =
     let end = ap (λ (j : ℕ). c .before .before .wide2 .result + 2 + j) count in
     omega (arith, at, count, stands .few, stands .whole)
 
-rule-add-t17 : (t : ℕ) → rule-lts.Need-add-t17 (rule-calls t) (rule-at t) rule.Post Inv-loop μ-loop
-rule-add-t17 t c =
-    omega (arith, c .before .before .before .before .before .before .before .before .before .before .before .before .before .before .pre .1 .few)
+rule-add-so : (t : ℕ) → rule-lts.Need-add-so (rule-calls t) (rule-at t) rule.Post Inv-loop μ-loop
+rule-add-so t c =
+    let start = c .before .before .before .before .before .before .before .before .before .before .before .before .before in
+    omega (arith, few-both (start .args .past) {most = 4096} (omega (arith, start .pre .1 .few)))
 
 rule-loop-holds : (t : ℕ) → rule-lts.Need-loop-holds (rule-calls t) (rule-at t) rule.Post Inv-loop μ-loop
 rule-loop-holds t c =
-    let start = c .before .before .before .before .before .before .before .before .before .before .before .before .before .before in
+    let start = c .before .before .before .before .before .before .before .before .before .before .before .before .before in
     let ready = start .pre .1 in
     let stands = rule-stands (ready .known) (ready .number) in
-    let at = c .before .before .before .wide2 .ensures ∙ ap (λ (k : ℕ). getD (start .args .starts .now) k 0) (c .before .before .before .before .before .wide .ensures) in
+    let at = c .before .before .wide2 .ensures ∙ ap (λ (k : ℕ). getD (start .args .starts .now) k 0) (c .before .before .before .before .wide .ensures) in
     let first = ap (λ (j : ℕ). j + 2) at in
-    let count = c .before .wide3 .ensures ∙ ap (λ (j : ℕ). countAt (start .args .words .now) j) at in
-    let end = ap (λ (j : ℕ). c .before .before .before .wide2 .result + 2 + j) count in
+    let count = c .wide3 .ensures ∙ ap (λ (j : ℕ). countAt (start .args .words .now) j) at in
+    let end = ap (λ (j : ℕ). c .before .before .wide2 .result + 2 + j) count in
     rule-begins stands first end (start .args .table .now) (start .args .n) _ _ _
 
 rule-mul-list-symbol : (t : ℕ) → rule-lts.Need-mul-list-symbol (rule-calls t) (rule-at t) rule.Post Inv-loop μ-loop
 rule-mul-list-symbol t c =
+    let start = c .before .before .before .before .before .before .before .before .before .before .before .before .before .before .before in
+    let ready = start .pre .1 in
+    let stands = rule-stands (ready .known) (ready .number) in
+    let at = c .before .before .before .before .wide2 .ensures ∙ ap (λ (k : ℕ). getD (start .args .starts .now) k 0) (c .before .before .before .before .before .before .wide .ensures) in
+    let first = ap (λ (j : ℕ). j + 2) at in
+    let count = c .before .before .wide3 .ensures ∙ ap (λ (j : ℕ). countAt (start .args .words .now) j) at in
+    let end = ap (λ (j : ℕ). c .before .before .before .before .wide2 .result + 2 + j) count in
+    omega (arith, at, count, stands .few, stands .whole, c .loop-test .taken)
+
+rule-shared-slice-read-list-symbol : (t : ℕ) →
+    rule-lts.Need-shared-slice-read-list-symbol (rule-calls t) (rule-at t) rule.Post Inv-loop μ-loop
+rule-shared-slice-read-list-symbol t c =
     let start = c .before .before .before .before .before .before .before .before .before .before .before .before .before .before .before .before in
     let ready = start .pre .1 in
     let stands = rule-stands (ready .known) (ready .number) in
@@ -149,44 +162,34 @@ rule-mul-list-symbol t c =
     let first = ap (λ (j : ℕ). j + 2) at in
     let count = c .before .before .before .wide3 .ensures ∙ ap (λ (j : ℕ). countAt (start .args .words .now) j) at in
     let end = ap (λ (j : ℕ). c .before .before .before .before .before .wide2 .result + 2 + j) count in
-    omega (arith, at, count, stands .few, stands .whole, c .loop-test .taken)
-
-rule-shared-slice-read-list-symbol : (t : ℕ) →
-    rule-lts.Need-shared-slice-read-list-symbol (rule-calls t) (rule-at t) rule.Post Inv-loop μ-loop
-rule-shared-slice-read-list-symbol t c =
-    let start = c .before .before .before .before .before .before .before .before .before .before .before .before .before .before .before .before .before in
-    let ready = start .pre .1 in
-    let stands = rule-stands (ready .known) (ready .number) in
-    let at = c .before .before .before .before .before .before .wide2 .ensures ∙ ap (λ (k : ℕ). getD (start .args .starts .now) k 0) (c .before .before .before .before .before .before .before .before .wide .ensures) in
-    let first = ap (λ (j : ℕ). j + 2) at in
-    let count = c .before .before .before .before .wide3 .ensures ∙ ap (λ (j : ℕ). countAt (start .args .words .now) j) at in
-    let end = ap (λ (j : ℕ). c .before .before .before .before .before .before .wide2 .result + 2 + j) count in
     omega (arith, at, count, stands .whole, c .before .loop-test .taken)
 
 rule-list-symbol-requires : (t : ℕ) → rule-lts.Need-list-symbol-requires (rule-calls t) (rule-at t) rule.Post Inv-loop μ-loop
 rule-list-symbol-requires t c κs =
-    let start = c .before .before .before .before .before .before .before .before .before .before .before .before .before .before .before .before .before .before .before in
+    let start = c .before .before .before .before .before .before .before .before .before .before .before .before .before .before .before .before .before .before in
     let ready = start .pre .1 in
     let stands = rule-stands (ready .known) (ready .number) in
-    let at = c .before .before .before .before .before .before .before .before .wide2 .ensures ∙ ap (λ (k : ℕ). getD (start .args .starts .now) k 0) (c .before .before .before .before .before .before .before .before .before .before .wide .ensures) in
+    let at = c .before .before .before .before .before .before .before .wide2 .ensures ∙ ap (λ (k : ℕ). getD (start .args .starts .now) k 0) (c .before .before .before .before .before .before .before .before .before .wide .ensures) in
     let first = ap (λ (j : ℕ). j + 2) at in
-    let count = c .before .before .before .before .before .before .wide3 .ensures ∙ ap (λ (j : ℕ). countAt (start .args .words .now) j) at in
-    let end = ap (λ (j : ℕ). c .before .before .before .before .before .before .before .before .wide2 .result + 2 + j) count in
+    let count = c .before .before .before .before .before .wide3 .ensures ∙ ap (λ (j : ℕ). countAt (start .args .words .now) j) at in
+    let end = ap (λ (j : ℕ). c .before .before .before .before .before .before .before .wide2 .result + 2 + j) count in
+    let past = start .args .past in
+    let one = one-rule past (omega (arith, ready .few)) in
     let a = start .args in
     let loop = c .before .before .before .before .loop in
     let test = c .before .before .before .loop-test .taken in
     let less = rule-falls stands first end (a .table .now) (a .n) (loop .i) (loop .inv .0) test in
-    (omega (arith, start .pre .0), rule-next stands first end (a .table .now) (a .n) ready (loop .inv) test)
+    (omega (arith, start .pre .0), rule-next stands first end (a .table .now) (a .n) ready one (loop .inv) test)
 
 rule-add-i : (t : ℕ) → rule-lts.Need-add-i (rule-calls t) (rule-at t) rule.Post Inv-loop μ-loop
 rule-add-i t c =
-    let start = c .before .before .before .before .before .before .before .before .before .before .before .before .before .before .before .before .before .before .before .before .before .before .before .before in
+    let start = c .before .before .before .before .before .before .before .before .before .before .before .before .before .before .before .before .before .before .before .before .before .before .before in
     let ready = start .pre .1 in
     let stands = rule-stands (ready .known) (ready .number) in
-    let at = c .before .before .before .before .before .before .before .before .before .before .before .before .before .wide2 .ensures ∙ ap (λ (k : ℕ). getD (start .args .starts .now) k 0) (c .before .before .before .before .before .before .before .before .before .before .before .before .before .before .before .wide .ensures) in
+    let at = c .before .before .before .before .before .before .before .before .before .before .before .before .wide2 .ensures ∙ ap (λ (k : ℕ). getD (start .args .starts .now) k 0) (c .before .before .before .before .before .before .before .before .before .before .before .before .before .before .wide .ensures) in
     let first = ap (λ (j : ℕ). j + 2) at in
-    let count = c .before .before .before .before .before .before .before .before .before .before .before .wide3 .ensures ∙ ap (λ (j : ℕ). countAt (start .args .words .now) j) at in
-    let end = ap (λ (j : ℕ). c .before .before .before .before .before .before .before .before .before .before .before .before .before .wide2 .result + 2 + j) count in
+    let count = c .before .before .before .before .before .before .before .before .before .before .wide3 .ensures ∙ ap (λ (j : ℕ). countAt (start .args .words .now) j) at in
+    let end = ap (λ (j : ℕ). c .before .before .before .before .before .before .before .before .before .before .before .before .wide2 .result + 2 + j) count in
     omega (arith, at, count, stands .few, stands .whole, c .before .before .before .before .before .before .before .before .loop-test .taken)
 
 rule-loop-less : (t : ℕ) → rule-lts.Need-loop-less (rule-calls t) (rule-at t) rule.Post Inv-loop μ-loop
@@ -194,36 +197,38 @@ rule-loop-less t c = search needs
 
 rule-loop-again : (t : ℕ) → rule-lts.Need-loop-again (rule-calls t) (rule-at t) rule.Post Inv-loop μ-loop
 rule-loop-again t c =
-    let start = c .before .before .before .before .before .before .before .before .before .before .before .before .before .before .before .before .before .before .before .before .before .before .before .before in
+    let start = c .before .before .before .before .before .before .before .before .before .before .before .before .before .before .before .before .before .before .before .before .before .before .before in
     let ready = start .pre .1 in
     let stands = rule-stands (ready .known) (ready .number) in
-    let at = c .before .before .before .before .before .before .before .before .before .before .before .before .before .wide2 .ensures ∙ ap (λ (k : ℕ). getD (start .args .starts .now) k 0) (c .before .before .before .before .before .before .before .before .before .before .before .before .before .before .before .wide .ensures) in
+    let at = c .before .before .before .before .before .before .before .before .before .before .before .before .wide2 .ensures ∙ ap (λ (k : ℕ). getD (start .args .starts .now) k 0) (c .before .before .before .before .before .before .before .before .before .before .before .before .before .before .wide .ensures) in
     let first = ap (λ (j : ℕ). j + 2) at in
-    let count = c .before .before .before .before .before .before .before .before .before .before .before .wide3 .ensures ∙ ap (λ (j : ℕ). countAt (start .args .words .now) j) at in
-    let end = ap (λ (j : ℕ). c .before .before .before .before .before .before .before .before .before .before .before .before .before .wide2 .result + 2 + j) count in
+    let count = c .before .before .before .before .before .before .before .before .before .before .wide3 .ensures ∙ ap (λ (j : ℕ). countAt (start .args .words .now) j) at in
+    let end = ap (λ (j : ℕ). c .before .before .before .before .before .before .before .before .before .before .before .before .wide2 .result + 2 + j) count in
     rule-goes-on stands first end (start .args .table .now) (start .args .n) (c .before .before .before .before .before .before .before .before .before .loop .inv) (c .before .before .before .before .before .before .before .before .loop-test .taken)
     (c .before .before .before .before .list-symbol .ensures)
 
 rule-same-length : (t : ℕ) → rule-lts.Need-same-length (rule-calls t) (rule-at t) rule.Post Inv-loop μ-loop
 rule-same-length t c =
-    let ready = c .before .before .before .before .before .before .before .before .before .before .before .before .before .before .before .before .pre .1 in
+    let ready = c .before .before .before .before .before .before .before .before .before .before .before .before .before .before .before .pre .1 in
     tokens-kept (c .before .loop .inv .1 .done .listed (ready .g) (ready .known))
 
 rule-same-length-2 : (t : ℕ) → rule-lts.Need-same-length-2 (rule-calls t) (rule-at t) rule.Post Inv-loop μ-loop
 rule-same-length-2 t c =
-    let ready = c .before .before .before .before .before .before .before .before .before .before .before .before .before .before .before .before .pre .1 in
-    rules-kept (c .before .loop .inv .1 .done .listed (ready .g) (ready .known)) ∙ c .before .before .before .before .before .before .before .before .before .before .put .kept .0
+    let ready = c .before .before .before .before .before .before .before .before .before .before .before .before .before .before .before .pre .1 in
+    rules-kept (c .before .loop .inv .1 .done .listed (ready .g) (ready .known)) ∙ c .before .before .before .before .before .before .before .before .before .put .kept .0
 
 rule-returns : (t : ℕ) → rule-lts.Need-returns (rule-calls t) (rule-at t) rule.Post Inv-loop μ-loop
 rule-returns t c =
-    let start = c .before .before .before .before .before .before .before .before .before .before .before .before .before .before .before .before in
+    let start = c .before .before .before .before .before .before .before .before .before .before .before .before .before .before .before in
     let ready = start .pre .1 in
     let stands = rule-stands (ready .known) (ready .number) in
-    let at = c .before .before .before .before .before .wide2 .ensures ∙ ap (λ (k : ℕ). getD (start .args .starts .now) k 0) (c .before .before .before .before .before .before .before .wide .ensures) in
+    let at = c .before .before .before .before .wide2 .ensures ∙ ap (λ (k : ℕ). getD (start .args .starts .now) k 0) (c .before .before .before .before .before .before .wide .ensures) in
     let first = ap (λ (j : ℕ). j + 2) at in
-    let count = c .before .before .before .wide3 .ensures ∙ ap (λ (j : ℕ). countAt (start .args .words .now) j) at in
-    let end = ap (λ (j : ℕ). c .before .before .before .before .before .wide2 .result + 2 + j) count in
-    rule-ends stands first end (start .args .table .now) (start .args .n) (c .before .before .before .before .before .before .before .before .before .before .put .ensures) (c .before .loop .inv) (c .loop-test .left)
+    let count = c .before .before .wide3 .ensures ∙ ap (λ (j : ℕ). countAt (start .args .words .now) j) at in
+    let end = ap (λ (j : ℕ). c .before .before .before .before .wide2 .result + 2 + j) count in
+    let past = start .args .past in
+    let one = one-rule past (omega (arith, ready .few)) in
+    rule-ends stands first end (start .args .table .now) (start .args .n) one (c .before .before .before .before .before .before .before .before .before .put .ensures) (c .before .loop .inv) (c .loop-test .left)
 
 symbol-wide-requires : (t : ℕ) → symbol-lts.Need-wide-requires (symbol-calls t) (symbol-at t) symbol.Post
 symbol-wide-requires t c κs = search needs
@@ -231,21 +236,19 @@ symbol-wide-requires t c κs = search needs
 symbol-put-requires : (t : ℕ) → symbol-lts.Need-put-requires (symbol-calls t) (symbol-at t) symbol.Post
 symbol-put-requires t c κs = search needs
 
-symbol-add-t15 : (t : ℕ) → symbol-lts.Need-add-t15 (symbol-calls t) (symbol-at t) symbol.Post
-symbol-add-t15 t c =
-    let start = c .before .before .before .before .before .before .before .before .before .before .before in
-    let wide = c .before .before .before .before .before .before .wide .ensures in
-    let size = terminal-size (start .args .n) (start .args .table .now) (start .args .s) (omega (arith, wide, c .before .before .before .before .before .if1 .taken)) in
-    omega (arith, start .pre .1 .few)
+symbol-add-result : (t : ℕ) → symbol-lts.Need-add-result (symbol-calls t) (symbol-at t) symbol.Post
+symbol-add-result t c =
+    let start = c .before .before .before .before .before .before .before .before .before .before in
+    omega (arith, few-both (start .args .past) {most = 4096} (omega (arith, start .pre .1 .few)))
 
 symbol-same-length : (t : ℕ) → symbol-lts.Need-same-length (symbol-calls t) (symbol-at t) symbol.Post
 symbol-same-length t c = search needs
 
 symbol-returns : (t : ℕ) → symbol-lts.Need-returns (symbol-calls t) (symbol-at t) symbol.Post
 symbol-returns t c =
-    let a = c .before .before .before .before .before .before .before .before .before .before .before .args in
-    let high : a .n ≤ a .s = omega (arith, c .before .before .before .before .before .before .wide .ensures, c .before .before .before .before .before .if1 .taken) in
-    token-listed (a .words .now) (a .starts .now) (a .table .now) (a .n) _ _ _ _ _ high (c .before .before .before .put .ensures)
+    let a = c .before .before .before .before .before .before .before .before .before .before .args in
+    let high : a .n ≤ a .s = omega (arith, c .before .before .before .before .before .wide .ensures, c .before .before .before .before .if1 .taken) in
+    token-listed (a .words .now) (a .starts .now) (a .table .now) (a .n) _ _ _ _ _ _ high (c .before .before .put .ensures) (one-token (a .past))
 
 symbol-mul-chosen : (t : ℕ) → symbol-lts.Need-mul-chosen (symbol-calls t) (symbol-at t) symbol.Post
 symbol-mul-chosen t c = search needs
@@ -310,7 +313,7 @@ pub +list-rule+list-symbol-spec : {M : Type 1} → statement M
     (rule-shared-slice-read-wide t)
     (rule-wide-requires-3 t)
     (rule-add-end t)
-    (rule-add-t17 t)
+    (rule-add-so t)
     (rule-loop-holds t)
     (rule-mul-list-symbol t)
     (rule-shared-slice-read-list-symbol t)
@@ -328,7 +331,7 @@ pub +list-rule+list-symbol-spec : {M : Type 1} → statement M
     symbol.Post
     (symbol-wide-requires t)
     (symbol-put-requires t)
-    (symbol-add-t15 t)
+    (symbol-add-result t)
     (symbol-same-length t)
     (symbol-returns t)
     (symbol-mul-chosen t)

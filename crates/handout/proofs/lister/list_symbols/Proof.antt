@@ -3,15 +3,16 @@ use borrow.Author.Needs.{needs}
 use Prim.Native.Nat.{_-_}
 use lib.ListN.{length}
 use Rattle.handout.proofs.ListerSteps.{Turn, tokens-kept, rules-kept, turns-begin, turn-goes-on, symbol-of-ready, symbols-listed}
+use Rattle.handout.specs.Listing.{lengths}
 use Rattle.handout.proofs.lister.list_symbols.Statement.{statement}
 use Rattle.handout.proofs.lister.list_symbols.Tie as tie
 
 abbrev Inv-loop : tie.InvT-loop
-Inv-loop words starts table n symbols sentence₀ derivation₀ so₀ i₀ sentence derivation so i =
-    Turn words starts table n symbols sentence₀ sentence derivation₀ derivation so₀ so i
+Inv-loop words starts table n symbols past sentence₀ derivation₀ so₀ i₀ sentence derivation so i =
+    Turn words starts table n symbols sentence₀ sentence derivation₀ derivation (lengths so₀) (lengths so) i
 
 abbrev μ-loop : tie.MeasureT-loop
-μ-loop words starts table n symbols sentence₀ derivation₀ so₀ i₀ sentence derivation so i = length symbols - i
+μ-loop words starts table n symbols past sentence₀ derivation₀ so₀ i₀ sentence derivation so i = length symbols - i
 
 loop-holds : tie.Need-loop-holds Inv-loop μ-loop
 loop-holds c =

@@ -4,19 +4,20 @@ use native.Mathlib.Omega.{arith}
 use mathlib.Core.Path.{_≡_, refl}
 use Prim.Native.Nat.{ℕ, _-_, _≤_}
 use lib.ListN.{length}
+use Rattle.handout.specs.Listing.{lengths}
 use Rattle.handout.specs.TreeListing.{PathOf}
 use Rattle.handout.proofs.PathSteps.{AfterSo, after-begins, back-at, after-goes-on, after-ends}
 use Rattle.handout.proofs.tree_lister.list_after.Statement.{statement}
 use Rattle.handout.proofs.tree_lister.list_after.Tie as tie
 
 abbrev Inv-loop : tie.InvT-loop
-Inv-loop words starts table n path steps sentence₀ derivation₀ so₀ i₀ sentence derivation so i =
+Inv-loop words starts table n path steps past sentence₀ derivation₀ so₀ i₀ sentence derivation so i =
     (i ≤ steps) × (length sentence ≡ length sentence₀) × (length derivation ≡ length derivation₀) ×
     ((start A : ℕ) → PathOf words starts table start A path steps →
-    AfterSo words starts table n start A sentence₀ sentence derivation₀ derivation so₀ so i)
+    AfterSo words starts table n start A sentence₀ sentence derivation₀ derivation (lengths so₀) (lengths so) i)
 
 abbrev μ-loop : tie.MeasureT-loop
-μ-loop words starts table n path steps sentence₀ derivation₀ so₀ i₀ sentence derivation so i = steps - i
+μ-loop words starts table n path steps past sentence₀ derivation₀ so₀ i₀ sentence derivation so i = steps - i
 
 loop-holds : tie.Need-loop-holds Inv-loop μ-loop
 loop-holds c =

@@ -5,6 +5,7 @@ use native.Mathlib.Omega.{arith}
 use mathlib.Core.Path.{_≡_, refl}
 use Prim.Native.Nat.{ℕ, _≤_}
 use lib.ListN.{length}
+use Rattle.handout.specs.Listing.{lengths}
 use Rattle.handout.specs.TreeListing.{climbed, PathOf, before, SideWritten, none-so-far}
 use Rattle.handout.proofs.PathSteps.{front-at, before-goes-on, before-begins, before-ends}
 use Rattle.handout.proofs.tree_lister.list_before.Statement.{statement}
@@ -15,7 +16,7 @@ Inv-loop words starts table n path steps sentence₀ derivation₀ so₀ i₀ se
     (i ≤ steps) × (length sentence ≡ length sentence₀) × (length derivation ≡ length derivation₀) ×
     ((start A : ℕ) → PathOf words starts table start A path steps →
     SideWritten before words starts table n start (climbed words starts table A i) sentence₀ sentence derivation₀ derivation
-    none-so-far so)
+    none-so-far (lengths so))
 
 abbrev μ-loop : tie.MeasureT-loop
 μ-loop words starts table n path steps sentence₀ derivation₀ so₀ i₀ sentence derivation so i = i

@@ -3,7 +3,7 @@ use borrow.Author.Needs.{needs}
 use native.Mathlib.Omega.{arith}
 use mathlib.Core.Path.{sym}
 use lib.Seq.{length-take-le}
-use Rattle.handout.proofs.ListerSteps.{rule-stands, nonterminal-low, table-long}
+use Rattle.handout.proofs.ListerSteps.{rule-stands, nonterminal-low, table-long, one-rule, few-both}
 use Rattle.handout.proofs.BesideSteps.{front-within, front-listable, front-written}
 use Rattle.handout.proofs.tree_lister.list_front.Statement.{statement}
 use Rattle.handout.proofs.tree_lister.list_front.Tie as tie
@@ -54,23 +54,26 @@ wide-requires c κs = search needs
 put-requires : tie.Need-put-requires
 put-requires c κs = search needs
 
-add-t13 : tie.Need-add-t13
-add-t13 c =
-    omega (arith, c .before .before .before .before .before .before .before .before .before .before .before .before .pre .few)
-
 right-of-requires : tie.Need-right-of-requires
 right-of-requires c κs =
-    let ready = c .before .before .before .before .before .before .before .before .before .before .before .before .pre in
+    let ready = c .before .before .before .before .before .before .before .before .before .before .before .pre in
     rule-stands (ready .beside .known) (ready .beside .number)
 
 slice-aggregate-list-symbols : tie.Need-slice-aggregate-list-symbols
 slice-aggregate-list-symbols c =
-    let fits = front-within (c .before .right-of .ensures) (c .before .before .before .before .before .before .before .before .before .before .before .before .before .before .pre) (c .before .before .before .before .before .before .before .wide .ensures) in
-    sym (length-take-le (c .before .before .before .before .before .before .before .wide .result) _ fits)
+    let fits = front-within (c .before .right-of .ensures) (c .before .before .before .before .before .before .before .before .before .before .before .before .before .pre) (c .before .before .before .before .before .before .wide .ensures) in
+    sym (length-take-le (c .before .before .before .before .before .before .wide .result) _ fits)
+
+add-list-symbols : tie.Need-add-list-symbols
+add-list-symbols c =
+    let start = c .before .before .before .before .before .before .before .before .before .before .before .before .before in
+    omega (arith, few-both (start .args .past) {most = 4096} (omega (arith, start .pre .few)))
 
 list-symbols-requires : tie.Need-list-symbols-requires
 list-symbols-requires c κs =
-    front-listable (c .before .before .before .right-of .ensures) (c .before .before .before .before .before .before .before .before .before .before .before .before .before .before .before .before .pre) (c .before .before .before .before .before .before .before .before .before .wide .ensures)
+    let start = c .before .before .before .before .before .before .before .before .before .before .before .before .before .before .before in
+    let one = one-rule (start .args .past) (omega (arith, start .pre .few)) in
+    front-listable (c .before .before .before .right-of .ensures) (start .pre) (c .before .before .before .before .before .before .before .before .wide .ensures) one
 
 same-length : tie.Need-same-length
 same-length c = search needs
@@ -80,8 +83,9 @@ same-length-2 c = search needs
 
 returns : tie.Need-returns
 returns c =
-    front-written (c .before .before .before .before .before .before .before .before .right-of .ensures) (c .before .before .before .before .before .before .before .before .before .before .before .before .before .before .before .before .before .before .before .before .before .pre) (c .before .before .before .before .before .before .before .before .before .before .before .before .before .before .wide .ensures) (c .before .before .before .before .before .before .before .before .before .before .before .before .put .ensures)
-    (c .before .before .before .before .list-symbols .ensures)
+    let start = c .before .before .before .before .before .before .before .before .before .before .before .before .before .before .before .before .before .before .before .before in
+    let one = one-rule (start .args .past) (omega (arith, start .pre .few)) in
+    front-written (c .before .before .before .before .before .before .before .before .right-of .ensures) (start .pre) (c .before .before .before .before .before .before .before .before .before .before .before .before .before .wide .ensures) one (c .before .before .before .before .before .before .before .before .before .before .before .put .ensures) (c .before .before .before .before .list-symbols .ensures)
 
 pub list-front-spec : {M : Type 1} → statement M
 list-front-spec =
@@ -97,9 +101,9 @@ list-front-spec =
     shared-slice-read-wide
     wide-requires
     put-requires
-    add-t13
     right-of-requires
     slice-aggregate-list-symbols
+    add-list-symbols
     list-symbols-requires
     same-length
     same-length-2
