@@ -1,7 +1,7 @@
 -- The first line: what the calls answer on the way to it comes to the text so far. Assumes nothing.
 use Prim.Native.Nat.{ℕ, _≤_, _<_}
 use native.Mathlib.Omega.{arith}
-use mathlib.Core.Path.{_≡_, refl, sym, _∙_}
+use mathlib.Core.Path.{_≡_, refl, ap, sym, _∙_}
 use mathlib.Core.Bool.{true, false}
 use mathlib.Core.List.{List, [], append-nil}
 use lib.ListN.{length, take}
@@ -121,5 +121,5 @@ begun-words {after = after} {so = so} {n = n} p (begun.accepted {g = g} e a h li
           λ marks zeros.
           rw same
           (going [] (line .over) (record { unpacks = file-words; grammar = e; accepted = a; tabled = h })
-          (clear e (λ r l. zeros r)) (line .count) (line .front ∙ sym (append-nil (firstLine g))));
+          (clear e (zeros g (ap layout (sym (file-words .are)) ∙ e))) (line .count) (line .front ∙ sym (append-nil (firstLine g))));
     }

@@ -5,7 +5,7 @@ use native.Mathlib.Omega.{arith}
 use mathlib.Core.Path.{_≡_, refl}
 use mathlib.Core.Bool.{true, false}
 use mathlib.Core.List.{List, [], _++_, append-nil}
-use lib.ListN.{length, take, replicate}
+use lib.ListN.{length, take, getD, replicate}
 use Rattle.lines.specs.Lines.{mostLine}
 use Rattle.suite.specs.declared.Piece.{Piece}
 use Rattle.suite.specs.Text.{Text}
@@ -45,7 +45,7 @@ module _ {file words table : List ℕ} where
 
 -- what the two functions promise, of the beginning and of what `fill` has put behind it
 pub first-made : {file words table marks marks′ text text′ : List ℕ} {so then : Piece} → Begun file words table text so →
-    Clear marks → Filled (take (so .words) words) table marks marks′ text text′ so then →
+    Clear file marks → Filled (take (so .words) words) table marks marks′ text text′ so then →
     FirstPiece file words table marks′ text′ then
 first-made {file} {marks = marks} begun zeros f = record {
   words-within = omega (arith, f .same-words, begun .words-within);
@@ -87,8 +87,8 @@ piece-made {file} {words} {table} {marks} {piece} {calls} {so} before pieces = r
   pieces = pieces;
 }
 
--- the marks as the program begins
-pub zeros-clear : (n : ℕ) → Clear (replicate n 0)
-zeros-clear zero i = refl
-zeros-clear (suc n) zero = refl
-zeros-clear (suc n) (suc i) = zeros-clear n i
+-- the marks as the program begins: each is 0
+pub zeros : (n i : ℕ) → _≡_ {A = ℕ} (getD (replicate n 0) i 0) 0
+zeros zero i = refl
+zeros (suc n) zero = refl
+zeros (suc n) (suc i) = zeros n i

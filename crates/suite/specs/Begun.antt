@@ -47,5 +47,5 @@ pub data OfWords (words table text : List ℕ) (so : Piece) : Type 0 where
 pub record Begun (file words table text : List ℕ) (so : Piece) : Type 0 where
   pub words-within : so .words ≤ length words
   pub within : so .length ≤ length text
-  pub so-far : (marks : List ℕ) → Clear marks →
+  pub so-far : (marks : List ℕ) → Clear file marks →
       SoFar file (take (so .words) words) table marks (so .count) (so .over) (take (so .length) text)

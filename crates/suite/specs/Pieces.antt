@@ -4,15 +4,18 @@ use Prim.Native.Nat.{ℕ, _+_, _≤_, _<_}
 use mathlib.Core.Path.{_≡_}
 use mathlib.Core.Bool.{Bool, true, false}
 use mathlib.Core.List.{List, _++_}
-use lib.ListN.{length, take, getD}
-use Rattle.grammar.specs.Words.{Grammar}
+use lib.ListN.{length, take}
+use Rattle.packed.specs.File.{wordsIn}
+use Rattle.grammar.specs.Words.{Grammar, layout, reads}
+use Rattle.handout.specs.Next.{AllUnused}
 use Rattle.handout.specs.Night.{Handout, Night}
 use Rattle.lines.specs.Lines.{mostLine}
 use Rattle.suite.specs.declared.Piece.{Piece}
 use Rattle.suite.specs.Text.{sentenceLines, firstLine, Accepts, Text}
 
-abbrev pub Clear : List ℕ → Type 0
-Clear marks = (i : ℕ) → getD marks i 0 ≡ 0
+-- clear marks: those of the rules of the file's grammar are 0; what lies past them is not looked at
+abbrev pub Clear : List ℕ → List ℕ → Type 0
+Clear file marks = (g : Grammar) → layout (wordsIn file) ≡ reads g → AllUnused g marks
 
 -- marks for all rules, room for the longest line
 abbrev pub Large : List ℕ → List ℕ → Type 0

@@ -85,7 +85,7 @@ fn first_piece(
 ) -> Piece
     requires { ⌜ (8707 ≤ length (now words)) × (896 ≤ length (now table)) ⌝ }
     requires { ⌜ Large (now marks) (now text) ⌝ }
-    requires { ⌜ Clear (now marks) ⌝ }
+    requires { ⌜ Clear (now file) (now marks) ⌝ }
     ensures { λ r. ⌜ FirstPiece (now (file .entry)) (now (words .exit)) (now (table .exit)) (now (marks .exit))
         (now (text .exit)) r ⌝ }
 {

@@ -10,7 +10,7 @@ use borrow.Author.Tests.{not-true}
 use Rattle.lines.specs.Lines.{mostLine}
 use Rattle.suite.specs.Pieces.{Pieces, first, next}
 use Rattle.suite.proofs.MoreLines.{count-few, turns, turns-fall}
-use Rattle.suite.proofs.WholeText.{pieces-so-far, piece-made, zeros-clear}
+use Rattle.suite.proofs.WholeText.{pieces-so-far, piece-made, zeros}
 use Rattle.suite.proofs.print_pieces.Statement.{statement}
 use Rattle.suite.proofs.print_pieces.Tie as tie
 
@@ -34,7 +34,7 @@ slice-aggregate-first-piece-3 c = search needs
 
 first-piece-requires : tie.Need-first-piece-requires Inv-loop μ-loop
 first-piece-requires c κs =
-    ((search needs, search needs), ((search needs, search needs), zeros-clear 256))
+    ((search needs, search needs), ((search needs, search needs), λ g e r l. zeros 256 r))
 
 slice-reshare-prefix-print : tie.Need-slice-reshare-prefix-print Inv-loop μ-loop
 slice-reshare-prefix-print c = c .before .before .before .before .before .first-piece .ensures .within
