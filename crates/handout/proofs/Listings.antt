@@ -14,11 +14,9 @@ use Rattle.grammar.specs.Words.{Grammar, R, RuleAt}
 use Rattle.grammar.specs.Tree.{Forest, nil, leaf, child, sentence, sentences, derivation, derivations}
 use Rattle.grammar.specs.Measure.{plain}
 use Rattle.grammar.specs.Least.{Least, RuleSize, Chosen, ChosenForest}
-use Rattle.grammar.specs.Refusals.{AllFit}
 use Rattle.grammar.specs.Certificates.{symbolSize, wordSize}
 use Rattle.grammar.proofs.Certificate.{word-sizes}
 use Rattle.grammar.proofs.LayoutExact.{in-bounds}
-use Rattle.grammar.proofs.RuleNumbers.{rule-number}
 use Rattle.grammar.proofs.Unique.{least-unique, sizes-unique}
 use Rattle.tables.specs.Table.{entry}
 use Rattle.tables.proofs.Main.{entry-front}
@@ -132,15 +130,3 @@ module _ {words starts table : List ℕ} {n : ℕ} {g : Grammar} (known : Known 
 
   pub number-low : {k : ℕ} → k < R g → k < 256
   number-low h = omega (arith, in-bounds words (known .view .is) .at-most-256)
-
-  -- what is listed of an accepted grammar is at most 4,096 numbers
-  module _ (fit : AllFit g) where
-    pub rule-fits : {k : ℕ} → k < R g → 1 + sizesBy n table (rightOf words starts k) ≤ 4096
-    rule-fits {k} h =
-        let f = fit k h in
-        omega (arith, f .within, f .is .is, rule-size-by (f .is .rule))
-
-    pub symbol-fits : (s : ℕ) → s < n → sizeBy n table s ≤ 4096
-    symbol-fits s h =
-        let c = chosen-rule s (entry table s 1) h refl in
-        omega (arith, c .size, rule-fits (rule-number (c .rule)))

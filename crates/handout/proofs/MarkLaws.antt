@@ -18,7 +18,7 @@ use Rattle.handout.specs.Next.{Unused, AllUsed, Marked}
 use Rattle.handout.specs.MarkSteps.{FirstUnused, found, nothing}
 use Rattle.handout.specs.declared.marks.Found.{Found}
 use Rattle.handout.specs.declared.marks.Found.the-variants.{At, Nothing}
-use Rattle.handout.proofs.MarksSettled.{ToSet, set?, marked-unique}
+use Rattle.handout.proofs.MarksSettled.{ToSet, set?}
 
 -- THE SEARCH over as many marks as the grammar has rules
 module _ (g : Grammar) {marks : List ℕ} {rules : ℕ} where
@@ -42,9 +42,6 @@ module _ (g : Grammar) {marks : List ℕ} {rules : ℕ} where
 -- THE MARKING of no rule
 pub marked-none : (marks : List ℕ) → Marked [] marks marks
 marked-none marks = record { long = refl; sets = λ i l m z. absurd (List·Memᴰ·not-nil m); keeps = λ i l n. refl }
-
-pub none-marked : {before after : List ℕ} → Marked [] before after → after ≡ before
-none-marked h = marked-unique h (marked-none _)
 
 -- of one rule: its mark is 0, or there is nothing to set
 module _ (marks : List ℕ) (k : ℕ) where

@@ -154,11 +154,3 @@ module _ {words starts table : List ℕ} {n start r : ℕ} (ready : TreeReady wo
               let tail = (rw e at (last start A way)) g known begin (z .above) (z .follows) in
               let middle = rule-written known rule (z .rule) (z .under) (z .opens) in
               wrote-as (sym (tokens-are z)) (sym (rules-are z)) (and-then head (and-then middle tail))
-
-  -- and there is such a tree
-  pub some-tree-written : {a b x y : List ℕ} {s : Lengths} → TreeWritten words starts table n start r a b x y s →
-      (t : Tree (ready .g) (ready .g .start)) × TreeOf plain (ready .g) r t ×
-      Wrote (sentence t) (derivation t) a b x y none-so-far s
-  some-tree-written h =
-      let (t, z) = the-tree in
-      (t, z, h (ready .g) (ready .known) (ready .starts-at) t z)
