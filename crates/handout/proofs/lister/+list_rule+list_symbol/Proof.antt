@@ -265,7 +265,7 @@ symbol-shared-slice-read-chosen t c =
     let start = c .before .before .before .before .before .before .before in
     let wide = c .before .before .wide .ensures in
     let low : start .args .s < start .args .n = omega (arith, wide, c .before .if1 .left) in
-    omega (arith, table-long (start .pre .1 .known) _ 1 low (omega arith), wide)
+    omega (arith, table-long (start .pre .1 .known) _ 4 low (omega arith), wide)
 
 symbol-list-rule-requires : (t : ℕ) → symbol-lts.Need-list-rule-requires (symbol-calls t) (symbol-at t) symbol.Post
 symbol-list-rule-requires t c κs =
