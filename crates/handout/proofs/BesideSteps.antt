@@ -1,17 +1,16 @@
 -- What listing the symbols beside a place needs and leaves: those before it in a context rule, with the rule's number, and those after
 -- it. Assumes nothing.
-use Prim.Native.Nat.{ℕ, suc, _+_, _-_, _≤_, _<_}
+use Prim.Native.Nat.{ℕ, _+_, _-_, _≤_}
 use native.Mathlib.Numerals.{add-one}
 use native.Mathlib.Omega.{arith}
 use mathlib.Core.List.{List}
-use mathlib.Core.Path.{_≡_, ap, sym, _∙_}
+use mathlib.Core.Path.{_≡_, ap, _∙_}
 use lib.ListN.{length, set, take, drop, length-drop}
-use lib.Seq.{take-all, length-take-le}
+use lib.Seq.{take-all}
 use Rattle.tables.specs.Table.{entry}
 use Rattle.handout.specs.declared.lister.Lengths.{Lengths}
 use Rattle.handout.specs.Listing.{sizesBy, rightOf, SymbolsReady, SymbolsWritten}
-use Rattle.handout.specs.TreeListing.{frontOf, backOf, Beside, FrontReady, BackReady, FrontWritten}
-use Rattle.handout.proofs.Listings.{number-low}
+use Rattle.handout.specs.TreeListing.{frontOf, backOf, FrontReady, BackReady, FrontWritten}
 use Rattle.handout.proofs.ListerSteps.{oneRule, numbered}
 
 -- what lies from an index on, as a part of a slice is read

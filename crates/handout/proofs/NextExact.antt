@@ -1,17 +1,15 @@
 -- Each answer of `next` is given exactly when document 01 says so, and what it says of the buffers. One way, only the row of an
 -- answer has it; the other way, its row allows it, and what is allowed is settled. Assumes nothing.
-use Prim.Native.Nat.{ℕ, _≤_, _<_}
+use Prim.Native.Nat.{ℕ}
 use mathlib.Core.Path.{_≡_, refl}
 use mathlib.Core.Logic.{_↔_}
 use mathlib.Core.List.{List}
-use lib.ListN.{length}
 use Rattle.answers.specs.Refusals.{Refusal, not-version-one, bad-length, too-many-words, too-short, broken-layout, no-tree}
 use Rattle.answers.specs.Refusals.{unreached, oversize, not-its-table, few-marks, derivation-short, no-derivation, long-list}
 use Rattle.answers.specs.Buffers.{over}
 use Rattle.answers.proofs.WrittenFromFront.{written}
-use Rattle.grammar.specs.Words.{Grammar, R, layout, faults, FaultAt}
-use Rattle.grammar.specs.Tree.{Tree, sentence, derivation}
-use Rattle.grammar.specs.Refusals.{Lowest, NoTree, AllTrees, Unreached, AllReached, Oversize, Accepted}
+use Rattle.grammar.specs.Words.{FaultAt}
+use Rattle.grammar.specs.Tree.{sentence, derivation}
 use Rattle.grammar.proofs.FirstOffence.{layout-faults-exact}
 use Rattle.grammar.specs.Words.{Are}
 use Rattle.handout.specs.Given.{Given, GivenFinished, GivenNext, Handed}

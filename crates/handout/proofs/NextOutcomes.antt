@@ -6,7 +6,7 @@ use mathlib.Core.Path.{_≡_, refl, ap, _∙_}
 use mathlib.Core.List.{List}
 use lib.ListN.{length, getD, take}
 use Rattle.answers.specs.Buffers.{over}
-use Rattle.grammar.specs.Words.{R, layout}
+use Rattle.grammar.specs.Words.{layout}
 use Rattle.grammar.specs.Words as W
 use Rattle.grammar.specs.Tree.{Tree, sentence, derivation}
 use Rattle.grammar.specs.Measure.{plain}

@@ -1,6 +1,6 @@
 -- What each step of the tree lister needs and leaves: a step up to the context rule of an open leaf, before the leaf and after it.
 -- Assumes nothing.
-use Prim.Native.Nat.{ℕ, suc, _+_, _*_, _≤_, _<_}
+use Prim.Native.Nat.{ℕ, suc, _+_, _<_}
 use native.Mathlib.Omega.{arith}
 use mathlib.Core.List.{List, [], _∷_, _++_}
 use mathlib.Core.Path.{_≡_, refl, ap, sym, _∙_}
@@ -17,7 +17,7 @@ use Rattle.tables.proofs.Main.{entry-front}
 use Rattle.grammar.proofs.RulesInView.{viewed-left, viewed-right}
 use Rattle.handout.specs.declared.lister.Lengths.{Lengths}
 use Rattle.handout.specs.Listing.{Known, sizesBy, rightOf, Wrote, SymbolsWritten}
-use Rattle.handout.specs.TreeListing.{Beside, frontOf, backOf, FrontReady, BackReady, FrontWritten, upper, Side, before, after}
+use Rattle.handout.specs.TreeListing.{Beside, backOf, FrontReady, BackReady, FrontWritten, upper, Side, before, after}
 use Rattle.handout.specs.TreeListing.{gapTokens, gapRules, tokensOn, rulesOn, SideReady, SideWritten}
 use Rattle.handout.proofs.Listings.{and-then, nothing}
 use Rattle.handout.proofs.OpenListings.{before-listed, after-listed, gap-within, listed-same, listed-size}

@@ -1,6 +1,6 @@
 -- What listing the tree of a rule needs and leaves: it is as many numbers as the table's total says, and they are what lies before the
 -- rule's left side, the rule's listing, and what lies after. Assumes nothing.
-use Prim.Native.Nat.{ℕ, _+_, _*_, _≤_, _<_}
+use Prim.Native.Nat.{ℕ, _+_, _*_, _≤_}
 use native.Mathlib.Omega.{arith}
 use mathlib.Core.List.{List, _++_}
 use mathlib.Core.Path.{_≡_, refl, ap, sym, _∙_}

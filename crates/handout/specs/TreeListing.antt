@@ -2,7 +2,7 @@
 -- write. Document 01: "The tree of rule r follows the context choices from the start to r's left side, puts r there, and opens
 -- every other nonterminal by its chosen rule."
 -- Nobody has to believe this file; the promises do not cite it. Assumes nothing.
-use Prim.Native.Nat.{ℕ, zero, suc, _+_, _*_, _≤_, _<_}
+use Prim.Native.Nat.{ℕ, zero, suc, _+_, _≤_, _<_}
 use mathlib.Core.Path.{_≡_}
 use mathlib.Core.List.{List, [], _∷_, _++_}
 use lib.ListN.{length, getD, take, drop}

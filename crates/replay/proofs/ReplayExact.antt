@@ -1,7 +1,7 @@
 -- Each answer of `replay` is given exactly when document 01 says so: Done with a sentence exactly where the list is a complete
 -- leftmost derivation of it, 11 exactly at the place where it stops. One way, only the row of an answer has it; the other way,
 -- its row allows it, and what is allowed is settled. Assumes nothing.
-use Prim.Native.Nat.{ℕ, _≤_, _<_}
+use Prim.Native.Nat.{ℕ}
 use native.Mathlib.Omega.{arith}
 use mathlib.Core.Path.{_≡_, refl, sym, ap, _∙_}
 use mathlib.Core.Logic.{_↔_}
