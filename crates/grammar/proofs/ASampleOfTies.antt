@@ -10,9 +10,10 @@ use mathlib.Core.List.{List, [], _∷_}
 use lib.ListN.{length}
 use Rattle.grammar.specs.Words.{Grammar, Rule, _⟶_, RuleAt}
 use Rattle.grammar.specs.Tree.{Tree, Forest, node, nil, leaf, child, Gap, here, past-leaf, past-child, Open, root, down}
-use Rattle.grammar.specs.Measure.{plain, treeCost, forestCost, gapCost, openCost}
+use Rattle.grammar.specs.Measure.{treeCost, forestCost, gapCost, openCost}
 use Rattle.grammar.specs.Least.{Least, Sizes, no-symbols, terminal, nonterminal, RuleSize, Chosen, Context}
 use Rattle.grammar.specs.Least.{at-place, past-nonterminal, Candidate, ContextChoice, Total}
+use Rattle.grammar.specs.Terms.{measure}
 
 -- nonterminals 0 S, 1 A; terminals 2 a, 3 b
 abbrev AA : List ℕ
@@ -49,19 +50,19 @@ tree-S = node 0 rule-0 (child tree-A (child tree-A nil))
 abbrev open-A : Open ties 1
 open-A = down 0 rule-0 root (here is-A (child tree-A nil))
 
-tree-A-size : treeCost plain tree-A ≡ 2
+tree-A-size : treeCost measure tree-A ≡ 2
 unfolding treeCost
 tree-A-size = refl
 
-tree-S-size : treeCost plain tree-S ≡ 5
+tree-S-size : treeCost measure tree-S ≡ 5
 unfolding treeCost
 tree-S-size = refl
 
-root-size : openCost plain {g = ties} root ≡ 0
+root-size : openCost measure {g = ties} root ≡ 0
 unfolding openCost
 root-size = refl
 
-open-A-size : openCost plain open-A ≡ 3
+open-A-size : openCost measure open-A ≡ 3
 unfolding openCost gapCost treeCost
 open-A-size = refl
 
@@ -78,26 +79,26 @@ on-rules P a b c d (suc (suc (suc (suc k)))) r =
     absurd (let s = r .stands in let z : _≡_ {A = ℕ} 0 1 = cc in omega arith)
 
 -- A tree costs 2 at least: its rule, and 1 for each of the rule's symbols, of which there is one at least.
-symbols-cost : {w : List ℕ} (f : Forest ties w) → length w ≤ forestCost plain f
+symbols-cost : {w : List ℕ} (f : Forest ties w) → length w ≤ forestCost measure f
 unfolding treeCost
 symbols-cost nil = omega arith
 symbols-cost (leaf p f) = omega (arith, symbols-cost f)
 symbols-cost (child (node k r t) f) = omega (arith, symbols-cost f)
 
-tree-above : {A : ℕ} (t : Tree ties A) → 2 ≤ treeCost plain t
+tree-above : {A : ℕ} (t : Tree ties A) → 2 ≤ treeCost measure t
 unfolding treeCost
 tree-above (node k r f) =
     let one = on-rules (λ k A w. 1 ≤ length w) (omega arith) (omega arith) (omega arith) (omega arith) k r in
     omega (arith, symbols-cost f)
 
 -- So A A costs 4 at least, and 2 beside an open leaf; no other right side has a place for A.
-pair-above : (f : Forest ties AA) → 4 ≤ forestCost plain f
+pair-above : (f : Forest ties AA) → 4 ≤ forestCost measure f
 unfolding treeCost
 pair-above (leaf p f) = absurd (omega arith)
 pair-above (child t (leaf p f)) = absurd (omega arith)
 pair-above (child t (child u nil)) = omega (arith, tree-above t, tree-above u)
 
-gap-above : {i A : ℕ} (a : Gap ties AA i A) → 2 ≤ gapCost plain a
+gap-above : {i A : ℕ} (a : Gap ties AA i A) → 2 ≤ gapCost measure a
 unfolding gapCost treeCost
 gap-above (here p (leaf q f)) = absurd (omega arith)
 gap-above (here p (child t nil)) = omega (arith, tree-above t)
@@ -109,31 +110,31 @@ no-gap h (here p f) = omega arith
 no-gap h (past-leaf p a) = elim a [ ]
 no-gap h (past-child t a) = elim a [ ]
 
-start-above : (t : Tree ties 0) → 5 ≤ treeCost plain t
+start-above : (t : Tree ties 0) → 5 ≤ treeCost measure t
 unfolding treeCost
 start-above (node k r f) =
-    let P : ℕ → ℕ → List ℕ → Type 0 = λ k A w. (f : Forest ties w) → A ≡ 0 → 4 ≤ forestCost plain f in
+    let P : ℕ → ℕ → List ℕ → Type 0 = λ k A w. (f : Forest ties w) → A ≡ 0 → 4 ≤ forestCost measure f in
     let pair : P 0 0 AA = λ f e. pair-above f in
     omega (arith, on-rules P pair (λ f e. absurd (omega arith)) (λ f e. absurd (omega arith)) pair k r f refl)
 
-open-above : (x : Open ties 1) → 3 ≤ openCost plain x
+open-above : (x : Open ties 1) → 3 ≤ openCost measure x
 unfolding openCost
 open-above (down {i = i} k r x a) =
-    let P : ℕ → ℕ → List ℕ → Type 0 = λ k B w. (a : Gap ties w i 1) → 2 ≤ gapCost plain a in
+    let P : ℕ → ℕ → List ℕ → Type 0 = λ k B w. (a : Gap ties w i 1) → 2 ≤ gapCost measure a in
     let none : P 1 1 (2 ∷ []) = λ a. absurd (no-gap (omega arith) a) in
     omega (arith, on-rules P gap-above none (λ a. absurd (no-gap (omega arith) a)) gap-above k r a)
 
 -- THE FIGURES
-pub least-A : Least plain ties 1 2
+pub least-A : Least measure ties 1 2
 least-A = record { tree = tree-A; costs = tree-A-size; smallest = tree-above }
 
-pub least-S : Least plain ties 0 5
+pub least-S : Least measure ties 0 5
 least-S = record { tree = tree-S; costs = tree-S-size; smallest = start-above }
 
-pub context-S : Context plain ties 0 0
+pub context-S : Context measure ties 0 0
 context-S = record { tree = root; costs = root-size; smallest = λ t. omega arith }
 
-pub context-A : Context plain ties 1 3
+pub context-A : Context measure ties 1 3
 context-A = record { tree = open-A; costs = open-A-size; smallest = open-above }
 
 -- the sizes of symbols together
@@ -143,16 +144,16 @@ sum (zero ∷ w) = 5 + sum w
 sum (suc zero ∷ w) = 2 + sum w
 sum (suc (suc s) ∷ w) = 1 + sum w
 
-sizes : (w : List ℕ) → Sizes plain ties w (sum w)
+sizes : (w : List ℕ) → Sizes measure ties w (sum w)
 sizes [] = no-symbols
 sizes (zero ∷ w) = nonterminal is-S least-S (sizes w)
 sizes (suc zero ∷ w) = nonterminal is-A least-A (sizes w)
 sizes (suc (suc s) ∷ w) = terminal {s = suc (suc s)} (omega arith) (sizes w)
 
-size : {k A : ℕ} {w : List ℕ} → RuleAt ties k A w → RuleSize plain ties A k (1 + sum w)
+size : {k A : ℕ} {w : List ℕ} → RuleAt ties k A w → RuleSize measure ties A k (1 + sum w)
 size {w = w} r = record { w = w; rule = r; others = sum w; sizes = sizes w; is = refl }
 
-pub totals : (r : ℕ) → r < 4 → Total plain ties r 5
+pub totals : (r : ℕ) → r < 4 → Total measure ties r 5
 totals zero l = record { A = 0; outer = 0; context = context-S; size = 5; rule = size rule-0; is = refl }
 totals (suc zero) l = record { A = 1; outer = 3; context = context-A; size = 2; rule = size rule-1; is = refl }
 totals (suc (suc zero)) l = record { A = 1; outer = 3; context = context-A; size = 2; rule = size rule-2; is = refl }
@@ -166,15 +167,15 @@ rules-of-A j r =
     on-rules P (λ e. absurd (omega arith)) (λ e. (omega arith, omega arith)) (λ e. (omega arith, omega arith))
     (λ e. absurd (omega arith)) j r refl
 
-pub chosen-A : Chosen plain ties 1 1
+pub chosen-A : Chosen measure ties 1 1
 chosen-A =
     record { figure = 2; least = least-A; attains = size rule-1; lowest = λ j h. let b = rules-of-A j (h .rule) in omega arith }
 
-pub chosen-S : Chosen plain ties 0 0
+pub chosen-S : Chosen measure ties 0 0
 chosen-S = record { figure = 5; least = least-S; attains = size rule-0; lowest = λ j h. omega arith }
 
 -- A comes to 3 at either place of either rule of S.
-pub at-first : {k : ℕ} → RuleAt ties k 0 AA → Candidate plain ties 1 k 0 3
+pub at-first : {k : ℕ} → RuleAt ties k 0 AA → Candidate measure ties 1 k 0 3
 at-first r = record {
   B = 0;
   w = AA;
@@ -186,7 +187,7 @@ at-first r = record {
   is = refl;
 }
 
-pub at-second : {k : ℕ} → RuleAt ties k 0 AA → Candidate plain ties 1 k 1 3
+pub at-second : {k : ℕ} → RuleAt ties k 0 AA → Candidate measure ties 1 k 1 3
 at-second r = record {
   B = 0;
   w = AA;
@@ -198,7 +199,7 @@ at-second r = record {
   is = refl;
 }
 
-pub choice-A : ContextChoice plain ties 1 0 0
+pub choice-A : ContextChoice measure ties 1 0 0
 choice-A = record {
   other = λ e. omega arith;
   figure = 3;

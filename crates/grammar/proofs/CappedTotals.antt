@@ -8,8 +8,9 @@ use mathlib.Core.Logic.{_⊎_, inl, inr, _↔_}
 use mathlib.Core.List.{List, [], _∷_, List·Memᴰ·cases-cons, List·Memᴰ·not-nil}
 use Rattle.grammar.specs.Words.{Grammar, RuleAt}
 use Rattle.grammar.specs.Tree.{_∈_}
-use Rattle.grammar.specs.Measure.{Cost, plain}
+use Rattle.grammar.specs.Measure.{Cost}
 use Rattle.grammar.specs.Least.{Least, Context, Total}
+use Rattle.grammar.specs.Terms.{measure, limit}
 use Rattle.grammar.specs.Refusals.{Oversize, Fits, AllFit}
 use Rattle.grammar.proofs.LayoutExact.{rule-below}
 use Rattle.grammar.proofs.Unique.{total-unique}
@@ -17,7 +18,7 @@ use Rattle.grammar.specs.Certificates.{wordSize, Leasts, Contexts}
 use Rattle.grammar.proofs.Certificate.{symbol-nonterminal, rule-size, Known, least-certificate}
 use Rattle.grammar.proofs.LeastsExist.{leasts-exist}
 use Rattle.grammar.proofs.ContextsExist.{contexts-exist}
-use Rattle.grammar.specs.Caps.{Cap, Limit, plainCap, plainLimit, Caps, cappedTotal, CappedFigures, stoppedTotal}
+use Rattle.grammar.specs.Caps.{Cap, Limit, Caps, cappedTotal, CappedFigures, measureCap, measureLimit, stoppedTotal}
 use Rattle.grammar.proofs.Cap.{cap-cap, cap-same, part-left, part-right}
 use Rattle.grammar.proofs.CappedLeasts.{word-caps, certificate-trees, capped-certificate}
 use Rattle.grammar.proofs.CappedContexts.{certificate-reached, capped-context}
@@ -130,30 +131,30 @@ module _ (c : Cost) (κ : Cap c) (g : Grammar) (v u : ℕ → c .C) where
               let t = not-over r (none k A w r) in
               (part-left κ limit t, rw e (part-right κ limit t))
 
--- REFUSAL 7, by sums that stop at 4,097
-module _ (g : Grammar) (v u : ℕ → ℕ) where
-  module _ (figures : CappedFigures plain (plainCap 4096) g v u) {r A : ℕ} {w : List ℕ} (rule : RuleAt g r A w) where
-    pub oversize-exact : (4096 < stoppedTotal g v u A w) ↔ Oversize g r
+-- REFUSAL 7 at any limit up to document 01's, by sums that stop at the ceiling
+module _ {l : ℕ} (up-to : l ≤ limit) (g : Grammar) (v u : ℕ → ℕ) where
+  module _ (figures : CappedFigures measure measureCap g v u) {r A : ℕ} {w : List ℕ} (rule : RuleAt g r A w) where
+    pub oversize-exact : (l < stoppedTotal g v u A w) ↔ Oversize l g r
     oversize-exact =
-        let both = over-exact plain (plainCap 4096) g v u figures (plainLimit 4096) rule in
+        let both = over-exact measure measureCap g v u figures (measureLimit l up-to) rule in
         (λ h. let z = both .0 h in record { total = z .0; is = z .1; above = z .2 }, λ o. both .1 (o .total, o .is, o .above))
 
-    pub fits-exact : (stoppedTotal g v u A w ≤ 4096) ↔ Fits g r
+    pub fits-exact : (stoppedTotal g v u A w ≤ l) ↔ Fits l g r
     fits-exact = (to, from)
       where
-        to : stoppedTotal g v u A w ≤ 4096 → Fits g r
+        to : stoppedTotal g v u A w ≤ l → Fits l g r
         to h =
-            let total = within-exact plain (plainCap 4096) g v u figures (plainLimit 4096) rule (λ o. omega arith) in
+            let total = within-exact measure measureCap g v u figures (measureLimit l up-to) rule (λ o. omega arith) in
             record { total = stoppedTotal g v u A w; is = total; within = h }
 
-        from : Fits g r → stoppedTotal g v u A w ≤ 4096
-        from f = let l = f .within in omega (arith, capped-total plain (plainCap 4096) g v u figures rule (f .is))
+        from : Fits l g r → stoppedTotal g v u A w ≤ l
+        from f = let le = f .within in omega (arith, capped-total measure measureCap g v u figures rule (f .is))
 
   -- what 7 does not refuse has exact figures
-  pub all-fit-exact : CappedFigures plain (plainCap 4096) g v u → AllFit g → Leasts plain g v × Contexts plain g v u
-  all-fit-exact figures fit = all-exact plain (plainCap 4096) g v u figures (plainLimit 4096) within
+  pub all-fit-exact : CappedFigures measure measureCap g v u → AllFit l g → Leasts measure g v × Contexts measure g v u
+  all-fit-exact figures fit = all-exact measure measureCap g v u figures (measureLimit l up-to) within
     where
-      within : (r A : ℕ) (w : List ℕ) → RuleAt g r A w → ¬ (4096 < stoppedTotal g v u A w)
+      within : (r A : ℕ) (w : List ℕ) → RuleAt g r A w → ¬ (l < stoppedTotal g v u A w)
       within r A w rule o =
-          let l : stoppedTotal g v u A w ≤ 4096 = fits-exact figures rule .1 (fit r (rule-below (g .rules) r _ (rule .stands))) in
+          let le : stoppedTotal g v u A w ≤ l = fits-exact figures rule .1 (fit r (rule-below (g .rules) r _ (rule .stands))) in
           omega arith

@@ -8,7 +8,7 @@ use native.Mathlib.Decide.{decLt}
 use mathlib.Core.Logic.{_⊎_, inl, inr}
 use Rattle.grammar.specs.Words.{Grammar, R, InBounds}
 use Rattle.grammar.specs.Tree.{Tree}
-use Rattle.grammar.specs.Measure.{plain}
+use Rattle.grammar.specs.Terms.{measure}
 use Rattle.grammar.specs.Least.{Total}
 use Rattle.grammar.specs.Refusals.{Lowest, NoTree, AllTrees, Reached, Unreached, AllReached, Oversize, Fits, AllFit}
 use Rattle.grammar.proofs.Unique.{total-unique}
@@ -19,7 +19,7 @@ use Rattle.grammar.proofs.TreeOfExists.{total-exists}
 
 -- 5: every nonterminal has a complete tree, or there is a lowest that has none
 pub trees? : (g : Grammar) → AllTrees g ⊎ ((A : ℕ) × Lowest (NoTree g) A)
-trees? g = all-or-lowest (NoTree g) (Tree g) (g .N) (λ A lt. go A lt (tree? plain g A lt)) (λ A t z. z .none t)
+trees? g = all-or-lowest (NoTree g) (Tree g) (g .N) (λ A lt. go A lt (tree? measure g A lt)) (λ A t z. z .none t)
   where
     go : (A : ℕ) → A < g .N → Tree g A ⊎ ¬ Tree g A → Tree g A ⊎ NoTree g A
     go A lt (inl t) = inl t
@@ -28,23 +28,24 @@ trees? g = all-or-lowest (NoTree g) (Tree g) (g .N) (λ A lt. go A lt (tree? pla
 -- 6: every nonterminal is reached, or there is a lowest that is not, where all have trees
 pub all-reached? : (g : Grammar) → AllTrees g → AllReached g ⊎ ((A : ℕ) × Lowest (Unreached g) A)
 all-reached? g trees =
-    let (v, leasts) = leasts-exist plain g trees in
-    all-or-lowest (Unreached g) (Reached g) (g .N) (λ A lt. go A lt (reached? plain g v leasts A lt)) (λ A t z. z .never t)
+    let (v, leasts) = leasts-exist measure g trees in
+    all-or-lowest (Unreached g) (Reached g) (g .N) (λ A lt. go A lt (reached? measure g v leasts A lt)) (λ A t z. z .never t)
   where
     go : (A : ℕ) → A < g .N → Reached g A ⊎ ¬ Reached g A → Reached g A ⊎ Unreached g A
     go A lt (inl t) = inl t
     go A lt (inr n) = inr (record { nonterminal = lt; never = n })
 
--- 7: every Total is at most 4,096, or there is a lowest rule whose Total is above, where 5 and 6 accept
-pub all-fit? : (g : Grammar) → InBounds g → AllTrees g → AllReached g → AllFit g ⊎ ((r : ℕ) × Lowest (Oversize g) r)
-all-fit? g ok trees reached = all-or-lowest (Oversize g) (Fits g) (R g) each apart
+-- 7: every Total is at most the limit, or there is a lowest rule whose Total is above, where 5 and 6 accept
+pub all-fit? : (limit : ℕ) (g : Grammar) → InBounds g → AllTrees g → AllReached g →
+    AllFit limit g ⊎ ((r : ℕ) × Lowest (Oversize limit g) r)
+all-fit? limit g ok trees reached = all-or-lowest (Oversize limit g) (Fits limit g) (R g) each apart
   where
-    go : (r x : ℕ) → Total plain g r x → Dec (4096 < x) → Fits g r ⊎ Oversize g r
+    go : (r x : ℕ) → Total measure g r x → Dec (limit < x) → Fits limit g r ⊎ Oversize limit g r
     go r x t (yes h) = inr (record { total = x; is = t; above = h })
     go r x t (no n) = inl (record { total = x; is = t; within = omega arith })
 
-    each : (r : ℕ) → r < R g → Fits g r ⊎ Oversize g r
-    each r l = let (x, t) = total-exists plain g ok trees reached r l in go r x t (decLt 4096 x)
+    each : (r : ℕ) → r < R g → Fits limit g r ⊎ Oversize limit g r
+    each r l = let (x, t) = total-exists measure g ok trees reached r l in go r x t (decLt limit x)
 
-    apart : (r : ℕ) → Fits g r → Oversize g r → ⊥
+    apart : (r : ℕ) → Fits limit g r → Oversize limit g r → ⊥
     apart r f o = let e = total-unique (f .is) (o .is) in let w = f .within in let a = o .above in omega arith

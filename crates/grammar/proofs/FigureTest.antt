@@ -13,11 +13,14 @@ use lib.Dec.{ltb, leb, eqb}
 use lib.ListN.{getElem?}
 use borrow.Author.Tests.{ltb-true, leb-true, eqb-true}
 use Rattle.grammar.specs.Words.{Grammar, Rule, _⟶_, RuleAt, InBounds}
+use Rattle.grammar.specs.Measure.{Cost, numbers}
+use Rattle.grammar.specs.Terms.{measure}
 use Rattle.grammar.specs.Certificates.{Holds}
 use Rattle.grammar.specs.Certificates.{Figures, AreFigures, sizeBy, besideBy, Attains, Leads}
 use Rattle.grammar.specs.Certificates.{FigureCertificate}
 use Rattle.grammar.specs.FigureTests.{firstly, every, each, there}
-use Rattle.grammar.specs.FigureTests.{place-test, rule-test, chosen-test, choice-test, chosen-passes, choice-passes, figures?}
+use Rattle.grammar.specs.FigureTests.{place-test, rule-test, chosen-test, choice-test, chosen-passes, choice-passes}
+use Rattle.grammar.specs.FigureTests.{figuresBy?, figures?}
 use Rattle.grammar.proofs.FigureCertificate.{figure-certificate}
 
 firstly-holds : (x y : ℕ) (b : Bool) → So (firstly x y b) → (x < y) ⊎ ((x ≡ y) × So b)
@@ -65,33 +68,40 @@ otherwise : (a b : Bool) → So (a || b) → ¬ So a → So b
 otherwise true b t n = absurd (n refl)
 otherwise false b t n = t
 
-module _ (g : Grammar) (F : Figures) where
+-- of figures that are numbers
+module _ (tok : ℕ → ℕ) (g : Grammar) (F : Figures (numbers tok)) where
   open Figures F using (least, chosen, context, rule, place, total)
 
+  abbrev c : Cost
+  c = numbers tok
+
   abbrev size : List ℕ → ℕ
-  size = sizeBy g F
+  size = sizeBy c g F
 
   abbrev beside : List ℕ → ℕ → ℕ
-  beside = besideBy g F
+  beside = besideBy c g F
 
-  module _ (passes : So (figures? g F)) where
+  abbrev both-pass : ℕ → Bool
+  both-pass A = chosen-passes tok g F A && choice-passes tok g F A
+
+  module _ (passes : So (figuresBy? tok g F)) where
     at-start : context (g .start) ≡ 0
     at-start = eqb-true _ 0 (and-eq-true-iff (eqb (context (g .start)) 0) _ .0 passes .0)
 
-    both : So (every (rule-test g F) (g .rules)) × So (each (λ A. chosen-passes g F A && choice-passes g F A) (g .N))
+    both : So (every (rule-test tok g F) (g .rules)) × So (each both-pass (g .N))
     both = and-eq-true-iff _ _ .0 (and-eq-true-iff (eqb (context (g .start)) 0) _ .0 passes .1)
 
-    choices-pass : (A : ℕ) → A < g .N → So (chosen-passes g F A) × So (choice-passes g F A)
+    choices-pass : (A : ℕ) → A < g .N → So (chosen-passes tok g F A) × So (choice-passes tok g F A)
     choices-pass A lt =
-        and-eq-true-iff (chosen-passes g F A) _ .0 (each-at (λ A. chosen-passes g F A && choice-passes g F A) (g .N) (both .1) A lt)
+        and-eq-true-iff (chosen-passes tok g F A) _ .0 (each-at both-pass (g .N) (both .1) A lt)
 
-    rule-passes : (k B : ℕ) (w : List ℕ) → RuleAt g k B w → So (rule-test g F k (B ⟶ w))
-    rule-passes k B w r = every-at (rule-test g F) (g .rules) (both .0) k (B ⟶ w) (r .stands)
+    rule-passes : (k B : ℕ) (w : List ℕ) → RuleAt g k B w → So (rule-test tok g F k (B ⟶ w))
+    rule-passes k B w r = every-at (rule-test tok g F) (g .rules) (both .0) k (B ⟶ w) (r .stands)
 
     size-passes : (k B : ℕ) (w : List ℕ) → RuleAt g k B w → So (firstly (least B) (size w) (leb (chosen B) k))
     size-passes k B w r = and-eq-true-iff (firstly (least B) (size w) (leb (chosen B) k)) _ .0 (rule-passes k B w r) .0
 
-    others-pass : (k B : ℕ) (w : List ℕ) → RuleAt g k B w → (total k ≡ context B + size w) × So (every (place-test g F k B w) w)
+    others-pass : (k B : ℕ) (w : List ℕ) → RuleAt g k B w → (total k ≡ context B + size w) × So (every (place-test tok g F k B w) w)
     others-pass k B w r =
         let z = and-eq-true-iff (firstly (least B) (size w) (leb (chosen B) k)) _ .0 (rule-passes k B w r) .1 in
         let y = and-eq-true-iff (eqb (total k) (context B + size w)) _ .0 z in
@@ -100,24 +110,24 @@ module _ (g : Grammar) (F : Figures) where
     place-passes : (k B : ℕ) (w : List ℕ) (i A : ℕ) → RuleAt g k B w → Holds w i A → A < g .N →
         So (firstly (context A) (context B + beside w i) (firstly (rule A) k (leb (place A) i)))
     place-passes k B w i A r h lt =
-        let t = every-at (place-test g F k B w) w (others-pass k B w r .1) i A h in
+        let t = every-at (place-test tok g F k B w) w (others-pass k B w r .1) i A h in
         otherwise (leb (g .N) A) _ t (λ e. omega (arith, leb-true (g .N) A e))
 
-    chosen-attains : (A : ℕ) → A < g .N → Attains g F A (chosen A)
-    chosen-attains A lt = go (there-holds (chosen-test g F A) (getElem? (g .rules) (chosen A)) (choices-pass A lt .0))
+    chosen-attains : (A : ℕ) → A < g .N → Attains c g F A (chosen A)
+    chosen-attains A lt = go (there-holds (chosen-test tok g F A) (getElem? (g .rules) (chosen A)) (choices-pass A lt .0))
       where
-        go : (ρ : Rule) × (getElem? (g .rules) (chosen A) ≡ some ρ) × So (chosen-test g F A ρ) → Attains g F A (chosen A)
+        go : (ρ : Rule) × (getElem? (g .rules) (chosen A) ≡ some ρ) × So (chosen-test tok g F A ρ) → Attains c g F A (chosen A)
         go (B ⟶ w, e, t) =
             let z = and-eq-true-iff (eqb B A) (eqb (least A) (size w)) .0 t in
             let same : B ≡ A = eqb-true B A (z .0) in
             (w, record { stands = rw same at e; left = lt }, eqb-true (least A) (size w) (z .1))
 
-    choice-attains : (A : ℕ) → A < g .N → ¬ (A ≡ g .start) → Leads g F A (rule A) (place A)
+    choice-attains : (A : ℕ) → A < g .N → ¬ (A ≡ g .start) → Leads c g F A (rule A) (place A)
     choice-attains A lt other =
         let t = otherwise (eqb A (g .start)) _ (choices-pass A lt .1) (λ e. other (eqb-true A (g .start) e)) in
-        go (there-holds (choice-test g F A) (getElem? (g .rules) (rule A)) t)
+        go (there-holds (choice-test tok g F A) (getElem? (g .rules) (rule A)) t)
       where
-        go : (ρ : Rule) × (getElem? (g .rules) (rule A) ≡ some ρ) × So (choice-test g F A ρ) → Leads g F A (rule A) (place A)
+        go : (ρ : Rule) × (getElem? (g .rules) (rule A) ≡ some ρ) × So (choice-test tok g F A ρ) → Leads c g F A (rule A) (place A)
         go (B ⟶ w, e, t) =
             let z = and-eq-true-iff (ltb B (g .N)) _ .0 t in
             let y = and-eq-true-iff (there (eqb A) (getElem? w (place A))) _ .0 (z .1) in
@@ -129,9 +139,9 @@ module _ (g : Grammar) (F : Figures) where
     order A j h (inl l) = inl l
     order A j h (inr z) = inr (z .0, leb-true (place A) h (z .1))
 
-    -- SOUND: figures that pass have the certificate, so they are document 01's
-    pub figures-certified : FigureCertificate g F
-    figures-certified = record {
+    -- SOUND: figures that pass have the certificate, so they are what it certifies
+    pub certified-by : FigureCertificate c g F
+    certified-by = record {
       least-below = λ k A w r. firstly-below (least A) (size w) (leb (chosen A) k) (size-passes k A w r);
       chosen-attains = chosen-attains;
       chosen-lowest = λ k A w r e. leb-true (chosen A) k (firstly-equal (least A) (size w) _ (size-passes k A w r) e);
@@ -144,5 +154,10 @@ module _ (g : Grammar) (F : Figures) where
       totals = λ r A w at. others-pass r A w at .0;
     }
 
-    pub figures : InBounds g → AreFigures g F
-    figures ok = figure-certificate g F ok .0 figures-certified
+-- AT DOCUMENT 01's MEASURE
+module _ (g : Grammar) (F : Figures measure) (passes : So (figures? g F)) where
+  pub figures-certified : FigureCertificate measure g F
+  figures-certified = certified-by (λ s. 1) g F passes
+
+  pub figures : InBounds g → AreFigures measure g F
+  figures ok = figure-certificate measure g F ok .0 figures-certified

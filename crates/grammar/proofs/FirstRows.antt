@@ -7,6 +7,7 @@ use mathlib.Core.Path.{_≡_, ap, subst}
 use mathlib.Core.List.{List}
 use Rattle.answers.specs.Refusals.{Refusal, no-tree, unreached, oversize}
 use Rattle.grammar.specs.Words.{Grammar, layout, reads, faults}
+use Rattle.grammar.specs.Terms.{limit}
 use Rattle.grammar.specs.Refusals.{Lowest, NoTree, AllTrees, Unreached, AllReached, Oversize, AllFit, Accepted}
 use Rattle.grammar.proofs.LayoutExact.{rule-below, reads-unique}
 use Rattle.grammar.proofs.Unique.{lowest-unique, total-unique}
@@ -33,7 +34,7 @@ words-settle words broken Rows rows o o′ (grammar {g = g} e a) (grammar e′ b
     rows g o o′ a (subst (λ (k : Grammar). Rows k o′) (reads-unique words e′ e) b)
 
 -- a Total above the limit and one within it are not the same rule's
-pub not-fit : (g : Grammar) (r : ℕ) → Lowest (Oversize g) r → AllFit g → ⊥
+pub not-fit : (g : Grammar) (r : ℕ) → Lowest (Oversize limit g) r → AllFit limit g → ⊥
 not-fit g r low fit =
     let o = low .such in
     let f = fit r (rule-below (g .rules) r _ (o .is .rule .rule .stands)) in
@@ -42,7 +43,7 @@ not-fit g r low fit =
 -- 5, 6, 7
 module _ {Out : Type 0} (answer : Refusal → Out) (g : Grammar) (Rest : Out → Type 0) where
   abbrev pub FromSeven : Out → Type 0
-  FromSeven = Gate (Lowest (Oversize g)) (AllFit g) (λ r. answer (oversize r)) Rest
+  FromSeven = Gate (Lowest (Oversize limit g)) (AllFit limit g) (λ r. answer (oversize r)) Rest
 
   abbrev pub FromSix : Out → Type 0
   FromSix = Gate (Lowest (Unreached g)) (AllReached g) (λ A. answer (unreached A)) FromSeven
@@ -51,7 +52,7 @@ module _ {Out : Type 0} (answer : Refusal → Out) (g : Grammar) (Rest : Out →
   FromFive = Gate (Lowest (NoTree g)) (AllTrees g) (λ A. answer (no-tree A)) FromSix
 
   -- the rows after 7 decide what is accepted
-  pub past-seven : {o : Out} → Accepted g → Rest o → FromFive o
+  pub past-seven : {o : Out} → Accepted limit g → Rest o → FromFive o
   past-seven a rest = go (a .trees) (go (a .reached) (go (a .fit) rest))
 
   pub five-settles : Settles Rest → Settles FromFive

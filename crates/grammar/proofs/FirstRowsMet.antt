@@ -6,6 +6,7 @@ use mathlib.Core.Logic.{_⊎_, inl, inr}
 use mathlib.Core.List.{List}
 use Rattle.answers.specs.Refusals.{Refusal, no-tree, unreached, oversize}
 use Rattle.grammar.specs.Words.{Grammar, Judged, layout, reads, faults, InBounds}
+use Rattle.grammar.specs.Terms.{limit}
 use Rattle.grammar.specs.Refusals.{Lowest, NoTree, AllTrees, Unreached, AllReached, Oversize, AllFit, Accepted}
 use Rattle.grammar.proofs.LayoutExact.{in-bounds}
 use Rattle.grammar.proofs.Decided.{trees?, all-reached?, all-fit?}
@@ -21,15 +22,16 @@ words-met {Out} words broken Rows rows = judged (layout words) refl
     judged (reads g) e = let (o, z) = rows g (in-bounds words e) in (o, grammar e z)
 
 module _ {Out : Type 0} (answer : Refusal → Out) (g : Grammar) (ok : InBounds g) (Rest : Out → Type 0) where
-  pub five-met : (Accepted g → (o : Out) × Rest o) → (o : Out) × FromFive answer g Rest o
+  pub five-met : (Accepted limit g → (o : Out) × Rest o) → (o : Out) × FromFive answer g Rest o
   five-met rest = five (trees? g)
     where
-      seven : AllTrees g → AllReached g → AllFit g ⊎ ((r : ℕ) × Lowest (Oversize g) r) → (o : Out) × FromSeven answer g Rest o
+      seven : AllTrees g → AllReached g → AllFit limit g ⊎ ((r : ℕ) × Lowest (Oversize limit g) r) →
+          (o : Out) × FromSeven answer g Rest o
       seven t u (inl f) = let (o, z) = rest (record { trees = t; reached = u; fit = f }) in (o, go f z)
       seven t u (inr (r, low)) = (answer (oversize r), stop low)
 
       six : AllTrees g → AllReached g ⊎ ((A : ℕ) × Lowest (Unreached g) A) → (o : Out) × FromSix answer g Rest o
-      six t (inl u) = let (o, z) = seven t u (all-fit? g ok t u) in (o, go u z)
+      six t (inl u) = let (o, z) = seven t u (all-fit? limit g ok t u) in (o, go u z)
       six t (inr (A, low)) = (answer (unreached A), stop low)
 
       five : AllTrees g ⊎ ((A : ℕ) × Lowest (NoTree g) A) → (o : Out) × FromFive answer g Rest o
@@ -37,10 +39,10 @@ module _ {Out : Type 0} (answer : Refusal → Out) (g : Grammar) (ok : InBounds 
       five (inr (A, low)) = (answer (no-tree A), stop low)
 
 -- so it can be said whether a grammar is accepted
-pub accepted? : (g : Grammar) → InBounds g → Dec (Accepted g)
-accepted? g ok = decide (five-met {Out = Unit {0}} (λ r. tt) g ok (λ o. Accepted g) (λ a. (tt, a)) .1)
+pub accepted? : (g : Grammar) → InBounds g → Dec (Accepted limit g)
+accepted? g ok = decide (five-met {Out = Unit {0}} (λ r. tt) g ok (λ o. Accepted limit g) (λ a. (tt, a)) .1)
   where
-    decide : {o : Unit {0}} → FromFive (λ r. tt) g (λ o. Accepted g) o → Dec (Accepted g)
+    decide : {o : Unit {0}} → FromFive (λ r. tt) g (λ o. Accepted limit g) o → Dec (Accepted limit g)
     decide (stop low) = no (λ a. low .such .none (a .trees _ (low .such .nonterminal)))
     decide (go t (stop low)) = no (λ a. low .such .never (a .reached _ (low .such .nonterminal)))
     decide (go t (go u (stop low))) = no (λ a. not-fit g _ low (a .fit))

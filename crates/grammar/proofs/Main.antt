@@ -9,7 +9,8 @@ use denote.Ref.{RefT, now}
 use Rattle.grammar.specs.Words.{Grammar, R, RuleAt, placeOf, layout, reads, faults, FaultAt, InBounds, words}
 use Rattle.grammar.specs.Derivation.{Terminals, Steps, Start, Derives, StopsAt, L, Through, ProductionCoverage}
 use Rattle.grammar.specs.Tree.{Tree, sentence, derivation, Uses, StandsIn, _∈_}
-use Rattle.grammar.specs.Measure.{Cost, plain, treeCost}
+use Rattle.grammar.specs.Measure.{Cost, treeCost}
+use Rattle.grammar.specs.Terms.{measure, limit}
 use Rattle.grammar.specs.Least.{Least, Chosen, Context, ContextChoice, Total, TreeOf}
 use Rattle.grammar.specs.Refusals.{AllTrees, AllReached, Reached, NoTree, Unreached, Oversize, AllFit}
 use Rattle.grammar.specs.Judge.{answerOf, startsOf, WordsOf}
@@ -39,7 +40,7 @@ use Rattle.grammar.specs.Certificates.{Stuck, Closed, LeastCertificate, 
 use Rattle.grammar.proofs.Certificate as Certificate
 use Rattle.grammar.proofs.ContextCertificate as ContextCertificate
 use Rattle.grammar.proofs.TreeOfExists as Exists
-use Rattle.grammar.specs.Caps.{Cap, Limit, plainCap}
+use Rattle.grammar.specs.Caps.{Cap, Limit, measureCap}
 use Rattle.grammar.proofs.CappedLeasts as CappedLeasts
 use Rattle.grammar.specs.Caps.{CappedCertificate, Caps}
 use Rattle.grammar.proofs.CappedContexts as CappedContexts
@@ -104,7 +105,7 @@ pub through-printed : {g : Grammar} {k : ℕ} {σ t : List ℕ} → Through g k 
 through-printed = Coverage.through-printed
 
 -- THE MEASURE. A tree's size is the length of its sentence plus that of its derivation.
-pub size-is-length : {g : Grammar} {A : ℕ} (t : Tree g A) → treeCost plain t ≡ length (sentence t) + length (derivation t)
+pub size-is-length : {g : Grammar} {A : ℕ} (t : Tree g A) → treeCost measure t ≡ length (sentence t) + length (derivation t)
 size-is-length = Size.size-is-length
 
 -- Every figure and every choice is one.
@@ -181,14 +182,14 @@ pub within-exact : (c : Cost) (κ : Cap c) (g : Grammar) (v u : ℕ → c .C) �
     {r A : ℕ} {w : List ℕ} → RuleAt g r A w → ¬ limit .Over (cappedTotal c κ g v u A w) → Total c g r (cappedTotal c κ g v u A w)
 within-exact = CappedTotals.within-exact
 
--- At document 01's limit: sums that stop at 4,097 are above 4,096 exactly where refusal 7 speaks of the rule, and where it speaks
--- of none every figure is exact.
-pub oversize-exact : (g : Grammar) (v u : ℕ → ℕ) → CappedFigures plain (plainCap 4096) g v u → {r A : ℕ} {w : List ℕ} →
-    RuleAt g r A w → (4096 < stoppedTotal g v u A w) ↔ Oversize g r
+-- At document 01's measure, and any limit up to its own: sums that stop at the ceiling are above the limit exactly where refusal 7
+-- speaks of the rule, and where it speaks of none every figure is exact.
+pub oversize-exact : {l : ℕ} → l ≤ limit → (g : Grammar) (v u : ℕ → ℕ) → CappedFigures measure measureCap g v u →
+    {r A : ℕ} {w : List ℕ} → RuleAt g r A w → (l < stoppedTotal g v u A w) ↔ Oversize l g r
 oversize-exact = CappedTotals.oversize-exact
 
-pub all-fit-exact : (g : Grammar) (v u : ℕ → ℕ) → CappedFigures plain (plainCap 4096) g v u → AllFit g →
-    Leasts plain g v × Contexts plain g v u
+pub all-fit-exact : {l : ℕ} → l ≤ limit → (g : Grammar) (v u : ℕ → ℕ) → CappedFigures measure measureCap g v u → AllFit l g →
+    Leasts measure g v × Contexts measure g v u
 all-fit-exact = CappedTotals.all-fit-exact
 
 -- AT REST. Where no rule improves a figure, what has none has no tree, or is not reached.

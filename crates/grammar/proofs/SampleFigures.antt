@@ -7,7 +7,7 @@ use mathlib.Core.List.{List, [], _∷_}
 use lib.ListN.{getD}
 use Rattle.grammar.specs.Words.{layout, lefts, reads}
 use Rattle.grammar.specs.Derivation.{StopsAt}
-use Rattle.grammar.specs.Measure.{plain}
+use Rattle.grammar.specs.Terms.{measure}
 use Rattle.grammar.specs.Least.{Least, Chosen}
 use Rattle.grammar.proofs.LayoutExact.{in-bounds}
 use Rattle.grammar.specs.Replaying.{replay, replayed, stepped, complete?}
@@ -18,7 +18,7 @@ use Rattle.grammar.specs.Samples.{D, D-words, empty-rule, D-table, loop}
 use Rattle.grammar.proofs.ASampleOfWords.{D-reads}
 
 -- "for each nonterminal five words (least, chosen rule, context, context rule, place counted from 0), then one total per rule"
-abbrev pub tabled : ℕ → List ℕ → Figures
+abbrev pub tabled : ℕ → List ℕ → Figures measure
 tabled N ws = record {
   least = λ A. getD ws (5 * A) 0;
   chosen = λ A. getD ws (5 * A + 1) 0;
@@ -28,7 +28,7 @@ tabled N ws = record {
   total = λ r. getD ws (5 * N + r) 0;
 }
 
-pub D-figures : AreFigures D (tabled 3 D-table)
+pub D-figures : AreFigures measure D (tabled 3 D-table)
 unfolding wordSize symbolSize othersSize
 D-figures = figures D (tabled 3 D-table) refl (in-bounds D-words D-reads)
 
@@ -37,7 +37,7 @@ empty-reads : layout (1 ∷ 0 ∷ 0 ∷ 0 ∷ 0 ∷ []) ≡ reads empty-rule
 unfolding layout lefts
 empty-reads = refl
 
-pub empty-figures : AreFigures empty-rule (tabled 1 (1 ∷ 0 ∷ 0 ∷ 65535 ∷ 65535 ∷ 1 ∷ []))
+pub empty-figures : AreFigures measure empty-rule (tabled 1 (1 ∷ 0 ∷ 0 ∷ 65535 ∷ 65535 ∷ 1 ∷ []))
 unfolding wordSize symbolSize othersSize
 empty-figures = figures empty-rule (tabled 1 (1 ∷ 0 ∷ 0 ∷ 65535 ∷ 65535 ∷ 1 ∷ [])) refl (in-bounds _ empty-reads)
 
@@ -47,14 +47,14 @@ loop-reads : layout (1 ∷ 1 ∷ 0 ∷ 0 ∷ 1 ∷ 0 ∷ 0 ∷ 1 ∷ 1 ∷ []) �
 unfolding layout lefts
 loop-reads = refl
 
-pub loop-figures : AreFigures loop (tabled 1 (2 ∷ 1 ∷ 0 ∷ 65535 ∷ 65535 ∷ 3 ∷ 2 ∷ []))
+pub loop-figures : AreFigures measure loop (tabled 1 (2 ∷ 1 ∷ 0 ∷ 65535 ∷ 65535 ∷ 3 ∷ 2 ∷ []))
 unfolding wordSize symbolSize othersSize
 loop-figures = figures loop (tabled 1 (2 ∷ 1 ∷ 0 ∷ 65535 ∷ 65535 ∷ 3 ∷ 2 ∷ [])) refl (in-bounds _ loop-reads)
 
-pub loop-least : Least plain loop 0 2
+pub loop-least : Least measure loop 0 2
 loop-least = loop-figures .leasts 0 (omega arith)
 
-pub loop-chosen : Chosen plain loop 0 1
+pub loop-chosen : Chosen measure loop 0 1
 loop-chosen = loop-figures .chosens 0 (omega arith)
 
 -- "replay 0 2 over D: 11 at 2", "replay 0 3 3 over D: 11 at 2", "replay of the empty list over D: 11 at 0"

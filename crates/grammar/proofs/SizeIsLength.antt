@@ -8,17 +8,18 @@ use native.Mathlib.Omega.{arith}
 use lib.ListN.{length, length-append}
 use Rattle.grammar.specs.Words.{Grammar}
 use Rattle.grammar.specs.Tree.{Tree, Forest, node, nil, leaf, child, sentence, sentences, derivation, derivations}
-use Rattle.grammar.specs.Measure.{plain, treeCost, forestCost}
+use Rattle.grammar.specs.Measure.{treeCost, forestCost}
+use Rattle.grammar.specs.Terms.{measure}
 
 module _ {g : Grammar} where
   mutual
     unfolding treeCost
 
     -- SIZE: what a tree is measured by is what its listing takes
-    pub size-is-length : {A : ℕ} (t : Tree g A) → treeCost plain t ≡ length (sentence t) + length (derivation t)
+    pub size-is-length : {A : ℕ} (t : Tree g A) → treeCost measure t ≡ length (sentence t) + length (derivation t)
     size-is-length (node k r f) = omega (arith, sizes-are-lengths f)
 
-    sizes-are-lengths : {w : List ℕ} (f : Forest g w) → forestCost plain f ≡ length (sentences f) + length (derivations f)
+    sizes-are-lengths : {w : List ℕ} (f : Forest g w) → forestCost measure f ≡ length (sentences f) + length (derivations f)
     sizes-are-lengths nil = refl
     sizes-are-lengths (leaf p f) = omega (arith, sizes-are-lengths f)
     sizes-are-lengths (child t f) =

@@ -1,10 +1,10 @@
 -- Figures that saturate. A cap is a monotone map of costs through which sums may pass at any step: what is summed of capped parts
 -- and capped again is the cap of the sum. A limit is a property of costs that the cap decides, and below which the cap changes
--- nothing. Document 01's measure is capped at L + 1 for the limit L: the sums never wrap, and are above L exactly where the true
--- ones are. What capped figures have to pass, and where an engine comes to rest, whatever the order of its work. That these are
--- exact are laws (proofs/CappedLeasts, CappedContexts, CappedTotals, AtRest).
+-- nothing. Document 01's measure is capped at its `ceiling`, just above its limit: the sums never wrap, and are above any limit
+-- up to that one exactly where the true ones are. What capped figures have to pass, and where an engine comes to rest, whatever
+-- the order of its work. That these are exact are laws (proofs/CappedLeasts, CappedContexts, CappedTotals, AtRest).
 -- Assumes nothing.
-use Prim.Native.Nat.{ℕ, suc, _<_, min}
+use Prim.Native.Nat.{ℕ, suc, _≤_, _<_, min}
 use native.Mathlib.Omega.{arith}
 use mathlib.Core.Path.{_≡_}
 use mathlib.Core.Logic.{_↔_}
@@ -12,6 +12,7 @@ use mathlib.Core.List.{List}
 use Rattle.grammar.specs.Words.{Grammar, RuleAt}
 use Rattle.grammar.specs.Tree.{Tree, Open, _∈_}
 use Rattle.grammar.specs.Measure.{Cost, plain, treeCost, openCost}
+use Rattle.grammar.specs.Terms.{measure, limit}
 use Rattle.grammar.specs.Certificates.{Holds, wordSize, othersSize}
 
 pub record Cap (c : Cost) : Type 0 where
@@ -27,7 +28,7 @@ pub record Limit (c : Cost) (κ : Cap c) : Type 1 where
   pub exact : (x : c .C) → ¬ Over x → κ .cap x ≡ x
   pub over-sum : (x y : c .C) → Over x → Over (c ._⊕_ x y)
 
--- at the limit L: a sum that would pass L + 1 stays there
+-- a sum that would pass L + 1 stays there; so every limit up to L is decided
 abbrev pub plainCap : ℕ → Cap plain
 plainCap L = record {
   cap = λ x. min x (suc L);
@@ -36,13 +37,23 @@ plainCap L = record {
   cap-sum = λ x y. omega arith;
 }
 
-abbrev pub plainLimit : (L : ℕ) → Limit plain (plainCap L)
-plainLimit L = record {
-  Over = λ x. L < x;
+abbrev pub plainLimit : (L l : ℕ) → l ≤ L → Limit plain (plainCap L)
+plainLimit L l up-to = record {
+  Over = λ x. l < x;
   decided = λ x. (λ h. omega arith, λ h. omega arith);
   exact = λ x h. omega arith;
   over-sum = λ x y h. omega arith;
 }
+
+-- at document 01's measure
+abbrev pub ceiling : ℕ
+ceiling = suc limit
+
+abbrev pub measureCap : Cap measure
+measureCap = plainCap limit
+
+abbrev pub measureLimit : (l : ℕ) → l ≤ limit → Limit measure measureCap
+measureLimit = plainLimit limit
 
 module _ (c : Cost) (κ : Cap c) (g : Grammar) where
   open Cost c using (C, _⊕_, _≼_, once)
@@ -92,10 +103,10 @@ module _ (c : Cost) (κ : Cap c) (g : Grammar) (v u : ℕ → c .C) where
     pub leasts : CappedCertificate c κ g v
     pub contexts : CappedContextCertificate c κ g v u
 
--- by sums that stop at 4,097
+-- by sums that stop at the ceiling
 module _ (g : Grammar) (v u : ℕ → ℕ) where
   abbrev pub stoppedTotal : ℕ → List ℕ → ℕ
-  stoppedTotal = cappedTotal plain (plainCap 4096) g v u
+  stoppedTotal = cappedTotal measure measureCap g v u
 
 -- Where an engine comes to rest: some nonterminals have a figure, each figure is the cap of what some tree costs, and no rule
 -- whose nonterminals all have figures improves one or lacks one at its left side. Has A: A has a figure, v(A).

@@ -2,7 +2,7 @@
 -- reached, figures that are the leasts and the contexts, and all figures of a table. That each is exact are laws (proofs/Dead,
 -- Certificate, ContextCertificate, FigureCertificate).
 -- Assumes nothing.
-use Prim.Native.Nat.{ℕ, zero, suc, _+_, _≤_, _<_}
+use Prim.Native.Nat.{ℕ, zero, suc, _≤_, _<_}
 use mathlib.Core.Path.{_≡_}
 use mathlib.Core.Bool.{Bool, true, false}
 use mathlib.Core.Logic.{_⊎_}
@@ -12,7 +12,7 @@ use lib.Dec.{ltb}
 use lib.ListN.{getElem?}
 use Rattle.grammar.specs.Words.{Grammar, RuleAt, R}
 use Rattle.grammar.specs.Tree.{_∈_}
-use Rattle.grammar.specs.Measure.{Cost, plain}
+use Rattle.grammar.specs.Measure.{Cost}
 use Rattle.grammar.specs.Least.{Least, Chosen, Context, ContextChoice, Total}
 
 module _ (g : Grammar) where
@@ -84,50 +84,53 @@ module _ (c : Cost) (g : Grammar) (v : ℕ → c .C) where
   Contexts u = (A : ℕ) → A < g .N → Context c g A (u A)
 
 -- five figures for each nonterminal, and the total for each rule
-pub record Figures : Type 0 where
-  pub least : ℕ → ℕ
+pub record Figures (c : Cost) : Type 0 where
+  pub least : ℕ → c .C
   pub chosen : ℕ → ℕ
-  pub context : ℕ → ℕ
+  pub context : ℕ → c .C
   pub rule : ℕ → ℕ
   pub place : ℕ → ℕ
-  pub total : ℕ → ℕ
+  pub total : ℕ → c .C
 
 -- they are what document 01 says
-pub record AreFigures (g : Grammar) (F : Figures) : Type 0 where
-  pub leasts : (A : ℕ) → A < g .N → Least plain g A (F .least A)
-  pub chosens : (A : ℕ) → A < g .N → Chosen plain g A (F .chosen A)
-  pub contexts : (A : ℕ) → A < g .N → Context plain g A (F .context A)
-  pub choices : (A : ℕ) → A < g .N → ¬ (A ≡ g .start) → ContextChoice plain g A (F .rule A) (F .place A)
-  pub totals : (r : ℕ) → r < R g → Total plain g r (F .total r)
+pub record AreFigures (c : Cost) (g : Grammar) (F : Figures c) : Type 0 where
+  pub leasts : (A : ℕ) → A < g .N → Least c g A (F .least A)
+  pub chosens : (A : ℕ) → A < g .N → Chosen c g A (F .chosen A)
+  pub contexts : (A : ℕ) → A < g .N → Context c g A (F .context A)
+  pub choices : (A : ℕ) → A < g .N → ¬ (A ≡ g .start) → ContextChoice c g A (F .rule A) (F .place A)
+  pub totals : (r : ℕ) → r < R g → Total c g r (F .total r)
 
-module _ (g : Grammar) (F : Figures) where
+module _ (c : Cost) (g : Grammar) (F : Figures c) where
+  open Cost c using (C, 𝟎, _⊕_, _≼_, once)
   open Figures F using (least, chosen, context, rule, place, total)
 
+  infixl 60 _⊕_
+  infix 40 _≼_
   -- the size that the leasts give to a rule with this right side, and to all of it but one place
-  abbrev pub sizeBy : List ℕ → ℕ
-  sizeBy w = 1 + wordSize plain g least w
+  abbrev pub sizeBy : List ℕ → C
+  sizeBy w = once ⊕ wordSize c g least w
 
-  abbrev pub besideBy : List ℕ → ℕ → ℕ
-  besideBy w i = 1 + othersSize plain g least w i
+  abbrev pub besideBy : List ℕ → ℕ → C
+  besideBy w i = once ⊕ othersSize c g least w i
 
   -- rule k is one of A and comes to A's least; rule k holds A at place i, and comes to A's context there
   abbrev pub Attains : ℕ → ℕ → Type 0
   Attains A k = (w : List ℕ) × RuleAt g k A w × (least A ≡ sizeBy w)
 
   abbrev pub Leads : ℕ → ℕ → ℕ → Type 0
-  Leads A k i = (B : ℕ) × (w : List ℕ) × RuleAt g k B w × Holds w i A × (context A ≡ context B + besideBy w i)
+  Leads A k i = (B : ℕ) × (w : List ℕ) × RuleAt g k B w × Holds w i A × (context A ≡ context B ⊕ besideBy w i)
 
   -- THE TESTS
   pub record FigureCertificate : Type 0 where
     -- no rule is smaller than the least of its left side; the chosen rule is as small, and the lowest such
-    pub least-below : (k A : ℕ) (w : List ℕ) → RuleAt g k A w → least A ≤ sizeBy w
+    pub least-below : (k A : ℕ) (w : List ℕ) → RuleAt g k A w → least A ≼ sizeBy w
     pub chosen-attains : (A : ℕ) → A < g .N → Attains A (chosen A)
     pub chosen-lowest : (k A : ℕ) (w : List ℕ) → RuleAt g k A w → least A ≡ sizeBy w → chosen A ≤ k
     -- the context of the start is 0; no place gives less; the context rule and place give as much, and are the first that do
-    pub context-start : context (g .start) ≡ 0
+    pub context-start : context (g .start) ≡ 𝟎
     pub context-below : (k B : ℕ) (w : List ℕ) (i A : ℕ) → RuleAt g k B w → Holds w i A → A < g .N →
-        context A ≤ context B + besideBy w i
+        context A ≼ context B ⊕ besideBy w i
     pub choice-attains : (A : ℕ) → A < g .N → ¬ (A ≡ g .start) → Leads A (rule A) (place A)
     pub choice-first : (k B : ℕ) (w : List ℕ) (i A : ℕ) → RuleAt g k B w → Holds w i A → A < g .N → ¬ (A ≡ g .start) →
-        context A ≡ context B + besideBy w i → (rule A < k) ⊎ ((rule A ≡ k) × (place A ≤ i))
-    pub totals : (r A : ℕ) (w : List ℕ) → RuleAt g r A w → total r ≡ context A + sizeBy w
+        context A ≡ context B ⊕ besideBy w i → (rule A < k) ⊎ ((rule A ≡ k) × (place A ≤ i))
+    pub totals : (r A : ℕ) (w : List ℕ) → RuleAt g r A w → total r ≡ context A ⊕ sizeBy w

@@ -3,6 +3,7 @@ pub mod Words
 pub mod Derivation
 pub mod Tree
 pub mod Measure
+pub mod Terms
 pub mod Least
 pub mod Refusals
 -- What the code answers.
