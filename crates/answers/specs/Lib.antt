@@ -1,3 +1,4 @@
 pub mod Refusals
+pub mod GrammarRefusals
 pub mod Buffers
 pub mod Lists

@@ -1,10 +1,6 @@
 // What the answers of all calls have in common. The numbers of document 01's refusals, for the code of every layer: what each
 // means, and its place, is specs/Refusals; what a lent buffer holds afterwards is specs/Buffers.
 
-pub const NOT_VERSION_ONE: u16 = 1;
-
-pub const BAD_LENGTH: u16 = 2;
-
 pub const TOO_SHORT: u16 = 3;
 
 pub const BROKEN_LAYOUT: u16 = 4;

@@ -10,8 +10,8 @@ use Rattle.packed.specs.declared.FileAnswer.the-variants.{Done, Refused}
 use Rattle.packed.specs.File.{fileOf, wordsIn, Octets, GoodFile}
 use Rattle.packed.specs.SampleFile.{deck, deckOctets}
 use Rattle.answers.specs.Buffers.{over, Written}
-use Rattle.packed.specs.Promise.{refused, NotVersionOne, BadLength, Unpacked, Packed}
-use Rattle.answers.specs.Refusals.Refusal.{not-version-one, bad-length, too-many-words, too-short}
+use Rattle.packed.specs.Answers.{answer, done, not-version-one, bad-length, too-many-words, too-short}
+use Rattle.packed.specs.Promise.{NotVersionOne, BadLength, Unpacked, Packed}
 use Rattle.packed.proofs.GoodFile as GoodFile
 use Rattle.packed.proofs.Settles as Settles
 use Rattle.packed.proofs.Meets as Meets
@@ -38,31 +38,31 @@ pack-met = Meets.pack-met
 
 -- EXACTLY. Each answer is given exactly when document 01 says so, in its order.
 pub unpack-not-version-one : {file words after : List ℕ} {r : FileAnswer} → Unpacked file words r after →
-    (r ≡ refused not-version-one) ↔ NotVersionOne file
+    (r ≡ answer not-version-one) ↔ NotVersionOne file
 unpack-not-version-one = Given.unpack-not-version-one
 
 pub unpack-bad-length : {file words after : List ℕ} {r : FileAnswer} → Unpacked file words r after →
-    (r ≡ refused bad-length) ↔ (¬ NotVersionOne file × BadLength file)
+    (r ≡ answer bad-length) ↔ (¬ NotVersionOne file × BadLength file)
 unpack-bad-length = Given.unpack-bad-length
 
 pub unpack-too-short : {file words after : List ℕ} {r : FileAnswer} → Unpacked file words r after → (n : ℕ) →
-    (r ≡ refused (too-short n)) ↔ (¬ NotVersionOne file × ¬ BadLength file × (n ≡ length (wordsIn file)) × (length words < n))
+    (r ≡ answer (too-short n)) ↔ (¬ NotVersionOne file × ¬ BadLength file × (n ≡ length (wordsIn file)) × (length words < n))
 unpack-too-short = Given.unpack-too-short
 
 pub unpack-done : {file words after : List ℕ} {r : FileAnswer} → Unpacked file words r after → (n : ℕ) →
-    (r ≡ Done n) ↔ (¬ NotVersionOne file × ¬ BadLength file × (n ≡ length (wordsIn file)) × (n ≤ length words))
+    (r ≡ answer (done n)) ↔ (¬ NotVersionOne file × ¬ BadLength file × (n ≡ length (wordsIn file)) × (n ≤ length words))
 unpack-done = Given.unpack-done
 
 pub pack-too-many-words : {words file after : List ℕ} {r : FileAnswer} → Packed words file r after →
-    (r ≡ refused too-many-words) ↔ (8707 < length words)
+    (r ≡ answer too-many-words) ↔ (8707 < length words)
 pack-too-many-words = Given.pack-too-many-words
 
 pub pack-too-short : {words file after : List ℕ} {r : FileAnswer} → Packed words file r after → (n : ℕ) →
-    (r ≡ refused (too-short n)) ↔ ((length words ≤ 8707) × (n ≡ length (fileOf words)) × (length file < n))
+    (r ≡ answer (too-short n)) ↔ ((length words ≤ 8707) × (n ≡ length (fileOf words)) × (length file < n))
 pack-too-short = Given.pack-too-short
 
 pub pack-done : {words file after : List ℕ} {r : FileAnswer} → Packed words file r after → (n : ℕ) →
-    (r ≡ Done n) ↔ ((length words ≤ 8707) × (n ≡ length (fileOf words)) × (n ≤ length file))
+    (r ≡ answer (done n)) ↔ ((length words ≤ 8707) × (n ≡ length (fileOf words)) × (n ≤ length file))
 pack-done = Given.pack-done
 
 -- WHAT PASSES rows 1 and 2: version 1, and a header that says the octets that follow, two for each of at most 8,707 words. Of
@@ -121,5 +121,5 @@ pub empty-refused : (words : List ℕ) → Unpacked [] words (Refused 1 0) words
 empty-refused = Samples.empty-refused
 
 pub long-refused : {file words after : List ℕ} {r : FileAnswer} → 17418 ≤ length file → Unpacked file words r after →
-    (r ≡ refused not-version-one) ⊎ (r ≡ refused bad-length)
+    (r ≡ answer not-version-one) ⊎ (r ≡ answer bad-length)
 long-refused = Samples.long-refused

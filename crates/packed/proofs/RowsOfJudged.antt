@@ -7,11 +7,11 @@ use lib.ListN.{length}
 use Rattle.packed.specs.declared.FileAnswer.the-variants.{Done, Refused}
 use Rattle.packed.specs.File.{wordsIn}
 use Rattle.answers.specs.Buffers.{over}
-use Rattle.packed.specs.Promise.{refused, Unpacked}
+use Rattle.packed.specs.Answers.{answer, too-short}
+use Rattle.packed.specs.Promise.{Unpacked}
 use Rattle.packed.specs.Promise.Unpacked.{wrong-version, wrong-length, no-room-for-words, all-words}
 use Rattle.packed.specs.Judged.{Judged}
 use Rattle.packed.specs.Judged.Judged.{judged-version, judged-length, judged-good}
-use Rattle.answers.specs.Refusals.Refusal.{too-short}
 use Rattle.packed.proofs.GoodFile.{good}
 
 pub refusal-stands : {file : List ℕ} {number place : ℕ} (words : List ℕ) → Judged file (Refused number place) →
@@ -23,7 +23,7 @@ pub good-length : {file : List ℕ} {n : ℕ} → Judged file (Done n) → lengt
 good-length {file} (judged-good v l) = good file v l .all
 
 pub good-no-room : {file : List ℕ} {n : ℕ} (words : List ℕ) → Judged file (Done n) → length words < n →
-    Unpacked file words (refused (too-short n)) words
+    Unpacked file words (answer (too-short n)) words
 good-no-room words (judged-good v l) h = no-room-for-words v l h
 
 pub good-done : {file : List ℕ} {n : ℕ} (words after : List ℕ) → Judged file (Done n) → n ≤ length words →

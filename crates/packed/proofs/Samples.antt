@@ -11,10 +11,10 @@ use Rattle.packed.specs.declared.FileAnswer.the-variants.{Done, Refused}
 use Rattle.packed.specs.File.{octetsOf, fileOf}
 use Rattle.packed.specs.SampleFile.{deck, deckOctets}
 use Rattle.answers.specs.Buffers.{over}
-use Rattle.packed.specs.Promise.{refused, Unpacked}
+use Rattle.packed.specs.Answers.{answer, not-version-one, bad-length}
+use Rattle.packed.specs.Promise.{Unpacked}
 use Rattle.packed.specs.Promise.NotVersionOne.{empty}
 use Rattle.packed.specs.Promise.Unpacked.{wrong-version, wrong-length, no-room-for-words, all-words}
-use Rattle.answers.specs.Refusals.Refusal.{not-version-one, bad-length}
 use Rattle.packed.proofs.GoodFile.{good}
 use Rattle.packed.proofs.RoundTrip.{unpack-fileOf}
 
@@ -39,7 +39,7 @@ empty-refused words = wrong-version (empty refl)
 
 -- "The program reads at most 17,418 octets, so a longer file meets 2 (or 1, by its first octet)."
 pub long-refused : {file words after : List ℕ} {r : FileAnswer} → 17418 ≤ length file → Unpacked file words r after →
-    (r ≡ refused not-version-one) ⊎ (r ≡ refused bad-length)
+    (r ≡ answer not-version-one) ⊎ (r ≡ answer bad-length)
 long-refused h (wrong-version k) = inl refl
 long-refused h (wrong-length v k) = inr refl
 long-refused {file} h (no-room-for-words v l k) = let g = good file v l in absurd (omega arith)

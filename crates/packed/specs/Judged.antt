@@ -4,12 +4,11 @@ use mathlib.Core.List.{List}
 use Prim.Native.Nat.{ℕ}
 use lib.ListN.{length}
 use Rattle.packed.specs.declared.FileAnswer.{FileAnswer}
-use Rattle.packed.specs.declared.FileAnswer.the-variants.{Done}
 use Rattle.packed.specs.File.{wordsIn}
-use Rattle.packed.specs.Promise.{refused, NotVersionOne, BadLength}
-use Rattle.answers.specs.Refusals.Refusal.{not-version-one, bad-length}
+use Rattle.packed.specs.Answers.{answer, done, not-version-one, bad-length}
+use Rattle.packed.specs.Promise.{NotVersionOne, BadLength}
 
 pub data Judged (file : List ℕ) : FileAnswer → Type 0 where
-  judged-version : NotVersionOne file → Judged file (refused not-version-one)
-  judged-length : ¬ NotVersionOne file → BadLength file → Judged file (refused bad-length)
-  judged-good : ¬ NotVersionOne file → ¬ BadLength file → Judged file (Done (length (wordsIn file)))
+  judged-version : NotVersionOne file → Judged file (answer not-version-one)
+  judged-length : ¬ NotVersionOne file → BadLength file → Judged file (answer bad-length)
+  judged-good : ¬ NotVersionOne file → ¬ BadLength file → Judged file (answer (done (length (wordsIn file))))

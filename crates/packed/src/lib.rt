@@ -18,6 +18,11 @@ pub enum FileAnswer {
     Refused { number: u16, place: usize },
 }
 
+// The numbers of the refusals that only files meet.
+const NOT_VERSION_ONE: u16 = 1;
+
+const BAD_LENGTH: u16 = 2;
+
 const VERSION: u8 = 1;
 
 // Where the version stands in a file, and the length: the places of refusals 1 and 2.
@@ -76,24 +81,24 @@ fn judge(file: &[u8]) -> FileAnswer
 {
     let all = file.len();
     if all == 0 {
-        return refuse(answers::NOT_VERSION_ONE, VERSION_PLACE);
+        return refuse(NOT_VERSION_ONE, VERSION_PLACE);
     }
     if file[VERSION_PLACE] != VERSION {
-        return refuse(answers::NOT_VERSION_ONE, VERSION_PLACE);
+        return refuse(NOT_VERSION_ONE, VERSION_PLACE);
     }
     if all < HEADER {
-        return refuse(answers::BAD_LENGTH, LENGTH_PLACE);
+        return refuse(BAD_LENGTH, LENGTH_PLACE);
     }
     let octets = all - HEADER;
     let said = word(file[LENGTH_PLACE], file[LENGTH_PLACE + 1]) as usize;
     if said != octets {
-        return refuse(answers::BAD_LENGTH, LENGTH_PLACE);
+        return refuse(BAD_LENGTH, LENGTH_PLACE);
     }
     if octets % 2 != 0 {
-        return refuse(answers::BAD_LENGTH, LENGTH_PLACE);
+        return refuse(BAD_LENGTH, LENGTH_PLACE);
     }
     if MOST_OCTETS < octets {
-        return refuse(answers::BAD_LENGTH, LENGTH_PLACE);
+        return refuse(BAD_LENGTH, LENGTH_PLACE);
     }
     FileAnswer::Done(octets / 2)
 }
@@ -256,7 +261,7 @@ pub fn pack(words: &[u16], file: &mut [u8]) -> FileAnswer
 {
     let count = words.len();
     if MOST_WORDS < count {
-        return refuse(answers::BAD_LENGTH, MOST_WORDS);
+        return refuse(BAD_LENGTH, MOST_WORDS);
     }
     let needed = HEADER + 2 * count;
     if file.len() < needed {
