@@ -16,7 +16,3 @@ pub const NOT_ITS_TABLE: u16 = 8;
 pub const FEW_MARKS: u16 = 9;
 
 pub const DERIVATION_SHORT: u16 = 10;
-
-pub const NO_DERIVATION: u16 = 11;
-
-pub const LONG_LIST: u16 = 12;

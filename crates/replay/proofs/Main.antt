@@ -5,13 +5,13 @@ use mathlib.Core.Path.{_≡_}
 use mathlib.Core.Logic.{_↔_}
 use mathlib.Core.List.{List}
 use lib.ListN.{length}
-use Rattle.answers.specs.Refusals.{Refusal, broken-layout}
 use Rattle.answers.specs.Buffers.{over}
 use Rattle.grammar.specs.Words.{FaultAt}
-use Rattle.replay.specs.Replay.{Replay, refused}
+use Rattle.replay.specs.Answers.{Case, answer, done, broken-layout}
+use Rattle.replay.specs.Replay.{Replay}
 use Rattle.replay.specs.Given.{Given, GivenDone}
 use Rattle.replay.specs.declared.ReplayAnswer.{ReplayAnswer}
-use Rattle.replay.specs.declared.ReplayAnswer.the-variants.{Done}
+use Rattle.replay.specs.declared.ReplayAnswer.the-variants.{Refused}
 use Rattle.replay.proofs.ReplaySettles as ReplaySettles
 use Rattle.replay.proofs.ReplayExact as ReplayExact
 
@@ -23,26 +23,26 @@ replay-settles = ReplaySettles.replay-settles
 pub replay-met : (words list before : List ℕ) → (a : ReplayAnswer) × (after : List ℕ) × Replay words list before a after
 replay-met = ReplaySettles.replay-met
 
--- Each refusal is given exactly when document 01 says so (`Given`), and then the buffer keeps its content. A sentence is written
--- exactly where there is room for it and the list is a complete leftmost derivation of it, of at most 4,096 numbers; Done tells
--- of nothing else.
-pub replay-refuses : {words list before after : List ℕ} {a : ReplayAnswer} → Replay words list before a after →
-    (r : Refusal) → (a ≡ refused r) ↔ Given words list before r
-replay-refuses = ReplayExact.replay-refuses
+-- EXACTLY. Each answer is given exactly when document 01 says so (`Given`); at a refusal the buffer keeps its content. A sentence
+-- is written exactly where there is room for it and the list is a complete leftmost derivation of it, of at most 4,096 numbers;
+-- Done tells of nothing else.
+pub replay-exactly : {words list before after : List ℕ} {a : ReplayAnswer} → Replay words list before a after →
+    (x : Case) → (a ≡ answer x) ↔ Given words list before x
+replay-exactly = ReplayExact.replay-exactly
 
 pub replay-first-offence : {words list before after : List ℕ} {a : ReplayAnswer} → Replay words list before a after →
-    (p : ℕ) → (a ≡ refused (broken-layout p)) ↔ FaultAt words p
+    (p : ℕ) → (a ≡ answer (broken-layout p)) ↔ FaultAt words p
 replay-first-offence = ReplayExact.replay-first-offence
 
 pub replay-keeps : {words list before after : List ℕ} {a : ReplayAnswer} → Replay words list before a after →
-    (r : Refusal) → a ≡ refused r → after ≡ before
+    {number place : ℕ} → a ≡ Refused number place → after ≡ before
 replay-keeps = ReplayExact.replay-keeps
 
 pub replay-done : {words list before after : List ℕ} {a : ReplayAnswer} → Replay words list before a after →
-    (t : List ℕ) → ((a ≡ Done (length t)) × (after ≡ over t before)) ↔ GivenDone words list before t
+    (t : List ℕ) → ((a ≡ answer (done (length t))) × (after ≡ over t before)) ↔ GivenDone words list before t
 replay-done = ReplayExact.replay-done
 
 pub replay-writes : {words list before after : List ℕ} {a : ReplayAnswer} → Replay words list before a after →
-    (n : ℕ) → a ≡ Done n →
+    (n : ℕ) → a ≡ answer (done n) →
     (t : List ℕ) × GivenDone words list before t × (n ≡ length t) × (after ≡ over t before)
 replay-writes = ReplayExact.replay-writes

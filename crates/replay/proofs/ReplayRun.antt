@@ -17,7 +17,7 @@ use Rattle.grammar.proofs.RulePlaces as places
 use Rattle.grammar.specs.Replaying.{stopped, replayed, replay}
 use Rattle.grammar.proofs.Replay.{replay-exact, replay-stops}
 use Rattle.grammar.proofs.RulesInView.{View, viewed-rule}
-use Rattle.replay.specs.Replay.{Replay, row-11, row-3, done}
+use Rattle.replay.specs.Replay.{Replay, row-11, row-3, row-done}
 use Rattle.replay.specs.Forms.{side, waiting, formOf, Passed}
 use Rattle.replay.specs.ReplaySteps.{rest, allFront, Ground, Kept, Onward, Bounded, Turned, Whole, Ended, Ran}
 use Rattle.replay.specs.declared.forms.Open.{Open}
@@ -167,7 +167,7 @@ module _ {ws starts list : List ℕ} {n rules : ℕ} {g : Grammar} (view : View 
       let long : tokens ≡ length t = whole .count in
       let held : after′ ≡ over t before =
       whole′ .holds ∙ ap (λ (u : List ℕ). sets before 0 u) same ∙ stored-over t before (omega arith) in
-      rw (held, long) (done (view .is) few (replay-exact g list t .0 d) (omega arith))
+      rw (held, long) (row-done (view .is) few (replay-exact g list t .0 d) (omega arith))
 
   -- what was kept aside, if there was room for all of it, is written
   kept-aside : {aside before after : List ℕ} {tokens : ℕ} → Whole g list aside after tokens → tokens ≤ length aside →
@@ -177,7 +177,7 @@ module _ {ws starts list : List ℕ} {n rules : ℕ} {g : Grammar} (view : View 
       let long : tokens ≡ length t = whole .count in
       let held : after ≡ over t aside = whole .holds ∙ stored-over t aside (omega arith) in
       let first : take (length t) (over t aside) ≡ t = written t aside (omega arith) .front in
-      rw (held, long, first) (done (view .is) few (replay-exact g list t .0 (whole .derives)) (omega arith))
+      rw (held, long, first) (row-done (view .is) few (replay-exact g list t .0 (whole .derives)) (omega arith))
 
   pub answers-aside : {aside before after after′ : List ℕ} {r : Outcome} {tokens : ℕ} {a : ReplayAnswer} →
       Ran g list aside r after → r ≡ Sentence tokens → tokens ≤ length aside → tokens ≤ length before →

@@ -6,31 +6,27 @@ use Prim.Native.Nat.{ℕ, _≤_, _<_}
 use mathlib.Core.Path.{_≡_}
 use mathlib.Core.List.{List}
 use lib.ListN.{length}
-use Rattle.answers.specs.Refusals.{Refusal, number, place, broken-layout, long-list, no-derivation, too-short}
 use Rattle.answers.specs.Buffers.{over}
 use Rattle.grammar.specs.Words.{Grammar, layout, reads, faults}
 use Rattle.grammar.specs.Derivation.{Derives, StopsAt}
 use Rattle.replay.specs.declared.ReplayAnswer.{ReplayAnswer}
-use Rattle.replay.specs.declared.ReplayAnswer.the-variants.{Done, Refused}
-
-abbrev pub refused : Refusal → ReplayAnswer
-refused r = Refused (number r) (place r)
+use Rattle.replay.specs.Answers.{answer, done, broken-layout, long-list, no-derivation, too-short}
 
 pub data Replay (words list before : List ℕ) : ReplayAnswer → List ℕ → Type 0 where
   -- "words break the grammar layout"
   row-4 : {p : ℕ} → layout words ≡ faults p →
-      Replay words list before (refused (broken-layout p)) before
+      Replay words list before (answer (broken-layout p)) before
   -- "replayed list over 4,096 numbers"
   row-12 : {g : Grammar} → layout words ≡ reads g → 4096 < length list →
-      Replay words list before (refused long-list) before
+      Replay words list before (answer long-list) before
   -- "list is no complete leftmost derivation", at the "first number that does not apply, or list length if nonterminals remain"
   row-11 : {g : Grammar} {p : ℕ} → layout words ≡ reads g → length list ≤ 4096 → StopsAt g list p →
-      Replay words list before (refused (no-derivation p)) before
+      Replay words list before (answer (no-derivation p)) before
   -- "sentence buffer too short", at the "length needed"
   row-3 : {g : Grammar} {t : List ℕ} → layout words ≡ reads g → length list ≤ 4096 → Derives g list t →
       length before < length t →
-      Replay words list before (refused (too-short (length t))) before
+      Replay words list before (answer (too-short (length t))) before
   -- "Done carries the length written."
-  done : {g : Grammar} {t : List ℕ} → layout words ≡ reads g → length list ≤ 4096 → Derives g list t →
+  row-done : {g : Grammar} {t : List ℕ} → layout words ≡ reads g → length list ≤ 4096 → Derives g list t →
       length t ≤ length before →
-      Replay words list before (Done (length t)) (over t before)
+      Replay words list before (answer (done (length t))) (over t before)

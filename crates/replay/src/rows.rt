@@ -11,6 +11,11 @@ use crate::ReplayAnswer;
 use crate::derivation::Outcome;
 use crate::derivation::run;
 
+// The numbers of the refusals that only a replayed list meets.
+const NO_DERIVATION: u16 = 11;
+
+const LONG_LIST: u16 = 12;
+
 // The most numbers that a replayed list has.
 const MOST_NUMBERS: usize = 4096;
 
@@ -33,7 +38,7 @@ pub fn of_grammar(
 {
     if MOST_NUMBERS < list.len() {
         return ReplayAnswer::Refused {
-            number: answers::LONG_LIST,
+            number: LONG_LIST,
             place: MOST_NUMBERS,
         };
     }
@@ -142,7 +147,7 @@ fn of_list(
 {
     match run(words, starts, n, rules, list, stack, aside) {
         Outcome::Stopped { place } => ReplayAnswer::Refused {
-            number: answers::NO_DERIVATION,
+            number: NO_DERIVATION,
             place,
         },
         Outcome::Sentence { tokens } => {

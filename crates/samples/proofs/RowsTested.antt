@@ -127,7 +127,7 @@ replay-sound list words r (reads g) e t =
         Holds (replay-of list words r)
     go (writes sentence) (derived t) h l ends =
         let is : sentence ≡ t = same sentence t ends in
-        λ before room. rw is (replayed.done e l (replay-exact g list t .0 h) (rw is at room))
+        λ before room. rw is (replayed.row-done e l (replay-exact g list t .0 h) (rw is at room))
     go (refuses number place) (derived t) h l ends = absurd (false≢true ends)
     go (writes sentence) (stopped p) h l ends = absurd (false≢true ends)
     go (refuses number place) (stopped p) h l ends =
