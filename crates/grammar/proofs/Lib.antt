@@ -48,19 +48,5 @@ pub mod CappedLeasts
 pub mod CappedContexts
 pub mod CappedTotals
 pub mod AtRest
--- The code.
-pub mod HeadJudged
-pub mod RuleJudged
-pub mod TableJudged
-pub mod AnswerJudged
-pub mod JudgeExact
-pub mod WalkSteps
-pub mod RulePlaces
-pub mod WalkInOrder
-pub mod RulesByNumber
-pub mod StartsNoted
-pub mod RulesInView
-pub mod WordsRead
-pub mod CodeSettles
 -- The final statements.
 pub mod Main

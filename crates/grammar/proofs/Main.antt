@@ -4,24 +4,14 @@ use Prim.Native.Nat.{ℕ, _+_, _≤_, _<_}
 use mathlib.Core.Path.{_≡_}
 use mathlib.Core.Logic.{_↔_}
 use mathlib.Core.List.{List, [], _∷_}
-use lib.ListN.{length, getD}
-use denote.Ref.{RefT, now}
-use Rattle.grammar.specs.Words.{Grammar, R, RuleAt, placeOf, layout, reads, faults, FaultAt, InBounds, words}
+use lib.ListN.{length}
+use Rattle.grammar.specs.Words.{Grammar, R, RuleAt, layout, reads, faults, FaultAt, InBounds, words}
 use Rattle.grammar.specs.Derivation.{Terminals, Steps, Start, Derives, StopsAt, L, Through, ProductionCoverage}
 use Rattle.grammar.specs.Tree.{Tree, sentence, derivation, Uses, StandsIn, _∈_}
 use Rattle.grammar.specs.Measure.{Cost, treeCost}
 use Rattle.grammar.specs.Terms.{measure, limit}
 use Rattle.grammar.specs.Least.{Least, Chosen, Context, ContextChoice, Total, TreeOf}
 use Rattle.grammar.specs.Refusals.{AllTrees, AllReached, Reached, NoTree, Unreached, Oversize, AllFit}
-use Rattle.grammar.specs.Judge.{answerOf, startsOf, WordsOf}
-use Rattle.grammar.specs.Walk.{WalkPlace, walkStart, stepAt, walkAt, takenFrom}
-use Rattle.grammar.specs.Rules.{rightAt}
-use Rattle.grammar.specs.declared.layout.LayoutAnswer.{LayoutAnswer}
-use Rattle.grammar.specs.declared.layout.LayoutAnswer.the-variants as answer
-use Rattle.grammar.specs.declared.layout.Reading.{Reading}
-use Rattle.grammar.specs.declared.walk.Step.{Step}
-use Rattle.grammar.specs.declared.walk.RuleWalk.{RuleWalk}
-use Rattle.grammar.specs.declared.walk.Taken.{Taken}
 use Rattle.grammar.proofs.LayoutExact as Words
 use Rattle.grammar.proofs.FirstOffence as FirstOffence
 use Rattle.grammar.proofs.WordsFew as WordsFew
@@ -49,11 +39,6 @@ use Rattle.grammar.proofs.CappedTotals as CappedTotals
 use Rattle.grammar.specs.Caps.{CappedFigures, cappedTotal, stoppedTotal}
 use Rattle.grammar.proofs.AtRest as AtRest
 use Rattle.grammar.specs.Caps.{LeastsAtRest, ContextsAtRest}
-use Rattle.grammar.proofs.JudgeExact as JudgeExact
-use Rattle.grammar.proofs.WalkInOrder as WalkInOrder
-use Rattle.grammar.specs.WalkOrder.{HandsOut, NextHandsOut}
-use Rattle.grammar.proofs.RulesByNumber as RulesByNumber
-use Rattle.grammar.proofs.CodeSettles as CodeSettles
 
 -- WORDS. Words are read as g exactly where they are g's words and g keeps the layout's bounds.
 pub layout-exact : (ws : List ℕ) (g : Grammar) → (layout ws ≡ reads g) ↔ (InBounds g × (ws ≡ words g))
@@ -200,55 +185,3 @@ no-figure-no-tree = AtRest.no-figure-no-tree
 pub no-figure-unreached : (c : Cost) (κ : Cap c) (g : Grammar) (v u : ℕ → c .C) (Has : ℕ → Type 0) → AllTrees g →
     ContextsAtRest c κ g v u Has → (A : ℕ) → A < g .N → ¬ Has A → Unreached g A
 no-figure-unreached = AtRest.no-figure-unreached
-
--- THE CODE. Each promise settles its answer, that of `read` where the rules stand too.
-pub judge-settles : (ws : List ℕ) {r s : LayoutAnswer} → r ≡ answerOf (layout ws) → s ≡ answerOf (layout ws) → r ≡ s
-judge-settles = CodeSettles.judge-settles
-
-pub word-settles : (ws : List ℕ) (i : ℕ) {r s : ℕ} → r ≡ getD ws i 0 → s ≡ getD ws i 0 → r ≡ s
-word-settles = CodeSettles.word-settles
-
-pub walk-start-settles : (words : RefT (List ℕ)) {r s : RuleWalk} → r ≡ walkAt words walkStart → s ≡ walkAt words walkStart → r ≡ s
-walk-start-settles = CodeSettles.walk-start-settles
-
-pub walk-step-settles : (ws : List ℕ) (v : WalkPlace) {r s : Step} → r ≡ stepAt ws v → s ≡ stepAt ws v → r ≡ s
-walk-step-settles = CodeSettles.walk-step-settles
-
-pub walk-next-settles : (w : RuleWalk) {r s : Taken} → r ≡ takenFrom w → s ≡ takenFrom w → r ≡ s
-walk-next-settles = CodeSettles.walk-next-settles
-
-pub read-settles : (ws : List ℕ) {r s : Reading} → r .answer ≡ answerOf (layout ws) → r .starts ≡ startsOf (layout ws) →
-    s .answer ≡ answerOf (layout ws) → s .starts ≡ startsOf (layout ws) → r ≡ s
-read-settles = CodeSettles.read-settles
-
-pub index-settles : (starts : List ℕ) (k : ℕ) {r s : ℕ} → (k < 256 → r ≡ getD starts k 0) × (256 ≤ k → r ≡ 0) →
-    (k < 256 → s ≡ getD starts k 0) × (256 ≤ k → s ≡ 0) → r ≡ s
-index-settles = CodeSettles.index-settles
-
-pub right-settles : (ws : List ℕ) (at : ℕ) {r s : List ℕ} → r ≡ rightAt ws at → s ≡ rightAt ws at → r ≡ s
-right-settles = RulesByNumber.right-settles
-
--- The judge says Fault exactly at the first offending word or the early end, and Grammar exactly of a grammar's words.
-pub judge-fault-exact : (ws : List ℕ) {r : LayoutAnswer} → r ≡ answerOf (layout ws) → (p : ℕ) → (r ≡ answer.Fault p) ↔ FaultAt ws p
-judge-fault-exact ws e = JudgeExact.judge-fault-exact ws e
-
-pub judge-grammar-exact : (ws : List ℕ) {r : LayoutAnswer} → r ≡ answerOf (layout ws) → (N T S n : ℕ) →
-    (r ≡ answer.Grammar N T S n) ↔ WordsOf ws N T S n
-judge-grammar-exact ws e = JudgeExact.judge-grammar-exact ws e
-
--- Over a grammar's words the walk hands out its rules in order and then ends, place by place and by `next`; what `read` notes
--- is the index of the left side of each, and `right` gives the right side of the rule there.
-pub walk-in-order : (ws : List ℕ) (g : Grammar) → layout ws ≡ reads g → HandsOut ws 0 walkStart (g .rules)
-walk-in-order ws g e = WalkInOrder.walk-in-order ws g e
-
-pub walk-next-in-order : (words : RefT (List ℕ)) (g : Grammar) → layout (now words) ≡ reads g →
-    NextHandsOut 0 (walkAt words walkStart) (g .rules)
-walk-next-in-order words g e = WalkInOrder.walk-next-in-order words g e
-
-pub left-of-rule : (ws : List ℕ) (g : Grammar) → layout ws ≡ reads g → {k A : ℕ} {w : List ℕ} → RuleAt g k A w →
-    getD ws (placeOf g k) 0 ≡ A
-left-of-rule = RulesByNumber.left-of-rule
-
-pub right-of-rule : (ws : List ℕ) (g : Grammar) → layout ws ≡ reads g → {k A : ℕ} {w : List ℕ} → RuleAt g k A w →
-    rightAt ws (placeOf g k) ≡ w
-right-of-rule = RulesByNumber.right-of-rule

@@ -6,16 +6,9 @@ pub mod Measure
 pub mod Terms
 pub mod Least
 pub mod Refusals
--- What the code answers.
-pub mod Judge
-pub mod Walk
-pub mod WalkOrder
-pub mod Rules
 -- What the final statements say besides: replay as a function, the tests that decide figures, figures that saturate, and samples.
 pub mod Replaying
 pub mod Certificates
 pub mod FigureTests
 pub mod Caps
 pub mod Samples
--- What the judge's private functions promise each other; nobody has to believe it.
-pub mod JudgeParts

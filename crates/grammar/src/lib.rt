@@ -1,7 +1,2 @@
-// Grammar words. What words are a grammar, what its trees, its measure and its derivations are, is this crate's specs/; the code
-// judges words once (`layout`), walks the rules of words so judged (`walk`), and finds rules by number (`rules`). All read words
-// by index (`words`).
-pub mod layout;
-pub mod rules;
-pub mod walk;
-pub mod words;
+// Grammars: what words are one, what its derivations, its trees and their sizes are, and the laws of these, over any cost of terminals
+// and rule uses. The definitions are specs/, the laws proofs/, the final statements proofs/Main. There is no code here.

@@ -20,17 +20,17 @@ rest m symbols = take (length symbols - m) (drop m symbols)
 rest-is : (m : ℕ) (symbols : List ℕ) → rest m symbols ≡ drop m symbols
 rest-is m symbols = take-all (length symbols - m) (drop m symbols) (omega (arith, length-drop m symbols))
 
-module _ {words starts table : List ℕ} {n A : ℕ} {p : Lengths} {symbols : List ℕ}
-    (is : symbols ≡ rightOf words starts (entry table A 3)) where
+module _ {words places table : List ℕ} {n A : ℕ} {p : Lengths} {symbols : List ℕ}
+    (is : symbols ≡ rightOf words places (entry table A 3)) where
   -- before the place
-  module _ {i : ℕ} (ready : FrontReady words starts table n A p) (ei : i ≡ entry table A 4) where
+  module _ {i : ℕ} (ready : FrontReady words places table n A p) (ei : i ≡ entry table A 4) where
     pub front-within : i ≤ length symbols
     front-within = omega (arith, ready .beside .place, ap length is)
 
-    front-is : take i symbols ≡ frontOf words starts table A
+    front-is : take i symbols ≡ frontOf words places table A
     front-is = rw (ei, is)
 
-    pub front-listable : {p₁ : Lengths} → p₁ ≡ oneRule p → SymbolsReady words starts table n (take i symbols) p₁
+    pub front-listable : {p₁ : Lengths} → p₁ ≡ oneRule p → SymbolsReady words places table n (take i symbols) p₁
     front-listable one = rw one (record {
       g = ready .g;
       known = ready .beside .known;
@@ -38,24 +38,24 @@ module _ {words starts table : List ℕ} {n A : ℕ} {p : Lengths} {symbols : Li
     })
 
     pub front-written : {a b x x₁ y : List ℕ} {p₁ q : Lengths} → p₁ ≡ oneRule p → x₁ ≡ set x (p .rules) (entry table A 3) →
-        SymbolsWritten words starts table n (take i symbols) a b x₁ y p₁ q → FrontWritten words starts table n A a b x y p q
+        SymbolsWritten words places table n (take i symbols) a b x₁ y p₁ q → FrontWritten words places table n A a b x y p q
     front-written one e h = numbered one e (rw front-is at h)
 
   -- after it
-  module _ {i : ℕ} (ready : BackReady words starts table n A p) (ei : i ≡ entry table A 4) where
+  module _ {i : ℕ} (ready : BackReady words places table n A p) (ei : i ≡ entry table A 4) where
     pub back-within : i + 1 ≤ length symbols
     back-within = omega (arith, ready .beside .place, ap length is)
 
-    back-is : rest (i + 1) symbols ≡ backOf words starts table A
+    back-is : rest (i + 1) symbols ≡ backOf words places table A
     back-is = rest-is (i + 1) symbols ∙ rw (add-one i, ei, is)
 
-    pub back-listable : SymbolsReady words starts table n (rest (i + 1) symbols) p
+    pub back-listable : SymbolsReady words places table n (rest (i + 1) symbols) p
     back-listable = record {
       g = ready .g;
       known = ready .beside .known;
       few = omega (arith, ready .few, ap (sizesBy n table) back-is);
     }
 
-    pub back-written : {a b x y : List ℕ} {q : Lengths} → SymbolsWritten words starts table n (rest (i + 1) symbols) a b x y p q →
-        SymbolsWritten words starts table n (backOf words starts table A) a b x y p q
+    pub back-written : {a b x y : List ℕ} {q : Lengths} → SymbolsWritten words places table n (rest (i + 1) symbols) a b x y p q →
+        SymbolsWritten words places table n (backOf words places table A) a b x y p q
     back-written h = rw back-is at h

@@ -10,14 +10,14 @@ use lib.ListN.{length, getD, set, take, drop, length-take, length-drop}
 use lib.Arith.{digits-div, digits-mod}
 use lib.Seq.{length-sets, length-take-le, take-suc, take-all, getD-take, getD-drop}
 use Rattle.grammar.specs.Words.{Grammar, R}
-use Rattle.grammar.specs.Walk.{countAt}
-use Rattle.grammar.specs.Rules.{rightAt}
+use Rattle.layout.specs.Walk.{countAt}
+use Rattle.layout.specs.Rules.{rightAt}
 use Rattle.grammar.specs.Tree.{node, nil}
 use Rattle.grammar.proofs.LayoutExact.{in-bounds}
-use Rattle.grammar.proofs.RulePlaces as places
+use Rattle.layout.proofs.RulePlaces as places
 use Rattle.grammar.proofs.RuleNumbers.{rule-number}
-use Rattle.grammar.proofs.RulesByNumber.{right-whole}
-use Rattle.grammar.proofs.RulesInView.{viewed-rule}
+use Rattle.layout.proofs.RulesByNumber.{right-whole}
+use Rattle.layout.proofs.RulesInView.{viewed-rule}
 use Rattle.grammar.proofs.WordsFew.{words-few}
 use Rattle.tables.specs.Table.{entry, tableLength}
 use Rattle.handout.specs.declared.lister.Lengths.{Lengths}
@@ -36,17 +36,17 @@ module _ {P : List ℕ → List ℕ → Type 0} {a b x y : List ℕ} {p q : Leng
   rules-kept = ap length (h .wrote .derivation) ∙ length-sets x (p .rules) (h .vs)
 
 -- where a rule stands, and where the table's words for a nonterminal do
-module _ {words starts table : List ℕ} {n : ℕ} {g : Grammar} (known : Known words starts table n g) where
+module _ {words places table : List ℕ} {n : ℕ} {g : Grammar} (known : Known words places table n g) where
   pub few-words : length words ≤ 8707
   few-words = words-few words g (known .view .is)
 
   module _ {k : ℕ} (h : k < R g) where
     -- its index is found by its number
-    pub index-is : {number at : ℕ} → number ≡ k → (number < 256 → at ≡ getD starts number 0) × (256 ≤ number → at ≡ 0) →
-        at ≡ getD starts k 0
-    index-is e r = r .0 (omega (arith, e, number-low known h)) ∙ ap (λ (m : ℕ). getD starts m 0) e
+    pub index-is : {number at : ℕ} → number ≡ k → (number < 256 → at ≡ getD places number 0) × (256 ≤ number → at ≡ 0) →
+        at ≡ getD places k 0
+    index-is e r = r .0 (omega (arith, e, number-low known h)) ∙ ap (λ (m : ℕ). getD places m 0) e
 
-    pub rule-stands : Stands words starts k
+    pub rule-stands : Stands words places k
     rule-stands =
         let (A, w, r) = viewed-rule (known .view) k h in
         let begin = known .view .begin k h in
@@ -66,17 +66,17 @@ module _ {words starts table : List ℕ} {n : ℕ} {g : Grammar} (known : Known 
       omega (arith, known .tabled .long, length-take (tableLength g) table, known .view .nonterminals)
 
 -- the part of the words that is read for a rule is its right side
-pub right-read : {words starts : List ℕ} {k at count : ℕ} → Stands words starts k → at ≡ getD starts k 0 → count ≡ countAt words at →
-    take ((at + 2 + count) - (at + 2)) (drop (at + 2) words) ≡ rightOf words starts k
-right-read {words} {starts} {k} {at} {count} stands e f =
+pub right-read : {words places : List ℕ} {k at count : ℕ} → Stands words places k → at ≡ getD places k 0 → count ≡ countAt words at →
+    take ((at + 2 + count) - (at + 2)) (drop (at + 2) words) ≡ rightOf words places k
+right-read {words} {places} {k} {at} {count} stands e f =
     let same : (at + 2 + count) - (at + 2) ≡ countAt words at = omega (arith, f) in
     rw same (sym (right-whole words at (rw e (stands .whole))) ∙ ap (λ (j : ℕ). rightAt words j) e)
 
 -- what a loop over the symbols w keeps: the first i of them are listed
-pub record Turn (words starts table : List ℕ) (n : ℕ) (w tokens tokens′ rules rules′ : List ℕ) (past so : Lengths) (i : ℕ) :
+pub record Turn (words places table : List ℕ) (n : ℕ) (w tokens tokens′ rules rules′ : List ℕ) (past so : Lengths) (i : ℕ) :
     Type 0 where
   pub upto : i ≤ length w
-  pub done : Written words starts table n (λ g. SymbolsListed g (take i w)) (sizesBy n table (take i w))
+  pub done : Written words places table n (λ g. SymbolsListed g (take i w)) (sizesBy n table (take i w))
       tokens tokens′ rules rules′ past so
 
 abbrev pub oneRule : Lengths → Lengths
@@ -107,8 +107,8 @@ module _ (m : ℕ) where
   pub few-both : {most : ℕ} → m / 65536 + m % 65536 ≤ most → m ≤ most * 65536
   few-both h = omega (arith, div-add-mod' m 65536)
 
-module _ (words starts table : List ℕ) (n : ℕ) where
-  pub turns-begin : (w a x : List ℕ) (p : Lengths) → Turn words starts table n w a a x x p p 0
+module _ (words places table : List ℕ) (n : ℕ) where
+  pub turns-begin : (w a x : List ℕ) (p : Lengths) → Turn words places table n w a a x x p p 0
   unfolding sizesBy
   turns-begin w a x p = record {
     upto = omega arith;
@@ -124,7 +124,7 @@ module _ (words starts table : List ℕ) (n : ℕ) where
   }
 
   pub token-listed : (s : ℕ) (a b x : List ℕ) (p q : Lengths) → n ≤ s → b ≡ set a (p .tokens) s → q ≡ oneToken p →
-      SymbolWritten words starts table n s a b x x p q
+      SymbolWritten words places table n s a b x x p q
   token-listed s a b x p q h e one = rw one (record {
     counted = omega (arith, terminal-size n table s h);
     listed = λ g k. record {
@@ -135,11 +135,11 @@ module _ (words starts table : List ℕ) (n : ℕ) where
     };
   })
 
-module _ {words starts table : List ℕ} {n : ℕ} where
+module _ {words places table : List ℕ} {n : ℕ} where
   -- one more symbol
   module _ {w a b c x y z : List ℕ} {p q r : Lengths} {i : ℕ} where
-    pub turn-goes-on : Turn words starts table n w a b x y p q i → i < length w →
-        SymbolWritten words starts table n (getD w i 0) b c y z q r → Turn words starts table n w a c x z p r (i + 1)
+    pub turn-goes-on : Turn words places table n w a b x y p q i → i < length w →
+        SymbolWritten words places table n (getD w i 0) b c y z q r → Turn words places table n w a c x z p r (i + 1)
     turn-goes-on turn h one = record {
       upto = omega arith;
       done = record {
@@ -158,8 +158,8 @@ module _ {words starts table : List ℕ} {n : ℕ} where
     }
 
   -- the next symbol can be listed
-  pub symbol-of-ready : {w a b x y : List ℕ} {p q : Lengths} {i : ℕ} → SymbolsReady words starts table n w p →
-      Turn words starts table n w a b x y p q i → i < length w → SymbolReady words starts table n (getD w i 0) q
+  pub symbol-of-ready : {w a b x y : List ℕ} {p q : Lengths} {i : ℕ} → SymbolsReady words places table n w p →
+      Turn words places table n w a b x y p q i → i < length w → SymbolReady words places table n (getD w i 0) q
   symbol-of-ready {w} {i = i} ready turn h = record {
     g = ready .g;
     known = ready .known;
@@ -167,14 +167,14 @@ module _ {words starts table : List ℕ} {n : ℕ} where
   }
 
   -- after the last symbol
-  pub symbols-listed : {w a b x y : List ℕ} {p q : Lengths} {i : ℕ} → Turn words starts table n w a b x y p q i → length w ≤ i →
-      SymbolsWritten words starts table n w a b x y p q
+  pub symbols-listed : {w a b x y : List ℕ} {p q : Lengths} {i : ℕ} → Turn words places table n w a b x y p q i → length w ≤ i →
+      SymbolsWritten words places table n w a b x y p q
   symbols-listed {w} {i = i} turn h = rw (take-all i w h) at (turn .done)
 
   -- a rule's number before some symbols
   pub numbered : {k : ℕ} {w a b x x₁ y : List ℕ} {p p₁ q : Lengths} → p₁ ≡ oneRule p → x₁ ≡ set x (p .rules) k →
-      SymbolsWritten words starts table n w a b x₁ y p₁ q →
-      Written words starts table n (λ g. RuleListed g k w) (1 + sizesBy n table w) a b x y p q
+      SymbolsWritten words places table n w a b x₁ y p₁ q →
+      Written words places table n (λ g. RuleListed g k w) (1 + sizesBy n table w) a b x y p q
   numbered {k} {w} {a} {b} {x} {x₁} {y} {p} {p₁} {q} one e h = record {
     counted = omega (arith, behind .counted);
     listed = λ g known.
@@ -187,18 +187,18 @@ module _ {words starts table : List ℕ} {n : ℕ} where
         };
   }
     where
-      behind : SymbolsWritten words starts table n w a b x₁ y (oneRule p) q
+      behind : SymbolsWritten words places table n w a b x₁ y (oneRule p) q
       behind = rw one at h
 
       number : Wrote [] (k ∷ []) a a x x₁ p (oneRule p)
       number = record { more-tokens = sym (add-zero (p .tokens)); more-rules = refl; sentence = refl; derivation = e }
 
   -- a nonterminal by its chosen rule
-  module _ {s k : ℕ} {p : Lengths} (ready : SymbolReady words starts table n s p) (h : s < n) (e : k ≡ entry table s 1) where
+  module _ {s k : ℕ} {p : Lengths} (ready : SymbolReady words places table n s p) (h : s < n) (e : k ≡ entry table s 1) where
     chosen : ChosenRule (ready .known) s k
     chosen = chosen-rule (ready .known) s k h e
 
-    pub rule-ready : RuleReady words starts table n k p
+    pub rule-ready : RuleReady words places table n k p
     rule-ready = record {
       g = ready .g;
       known = ready .known;
@@ -206,11 +206,11 @@ module _ {words starts table : List ℕ} {n : ℕ} where
       few = omega (arith, ready .few, chosen .size);
     }
 
-    pub rule-smaller : 2 * sizesBy n table (rightOf words starts k) + 1 < 2 * sizeBy n table s
+    pub rule-smaller : 2 * sizesBy n table (rightOf words places k) + 1 < 2 * sizeBy n table s
     rule-smaller = omega (arith, chosen .size)
 
-    pub chosen-listed : {a b x y : List ℕ} {q : Lengths} → RuleWritten words starts table n k a b x y p q →
-        SymbolWritten words starts table n s a b x y p q
+    pub chosen-listed : {a b x y : List ℕ} {q : Lengths} → RuleWritten words places table n k a b x y p q →
+        SymbolWritten words places table n s a b x y p q
     chosen-listed rule = record {
       counted = omega (arith, rule .counted, chosen .size);
       listed = λ g known.
@@ -228,23 +228,23 @@ module _ {words starts table : List ℕ} {n : ℕ} where
 
 -- what the loop over a rule's symbols keeps, which are read where they stand, from the index of the first one on
 abbrev pub RuleTurn : List ℕ → List ℕ → List ℕ → ℕ → ℕ → ℕ → List ℕ → List ℕ → List ℕ → List ℕ → Lengths → Lengths → ℕ → Type 0
-RuleTurn words starts table n k first a b x y p q i =
-    (first ≤ i) × Turn words starts table n (rightOf words starts k) a b x y p q (i - first)
+RuleTurn words places table n k first a b x y p q i =
+    (first ≤ i) × Turn words places table n (rightOf words places k) a b x y p q (i - first)
 
-module _ {words starts : List ℕ} {k : ℕ} (stands : Stands words starts k) where
-  right-is : rightOf words starts k ≡ take (countAt words (getD starts k 0)) (drop (getD starts k 0 + 2) words)
-  right-is = right-whole words (getD starts k 0) (stands .whole)
+module _ {words places : List ℕ} {k : ℕ} (stands : Stands words places k) where
+  right-is : rightOf words places k ≡ take (countAt words (getD places k 0)) (drop (getD places k 0 + 2) words)
+  right-is = right-whole words (getD places k 0) (stands .whole)
 
-  right-count : length (rightOf words starts k) ≡ countAt words (getD starts k 0)
+  right-count : length (rightOf words places k) ≡ countAt words (getD places k 0)
   right-count =
-      let at = getD starts k 0 in
+      let at = getD places k 0 in
       ap length right-is
       ∙ length-take-le (countAt words at) (drop (at + 2) words) (omega (arith, length-drop (at + 2) words, stands .whole))
 
-  module _ {first end : ℕ} (ef : first ≡ getD starts k 0 + 2) (ee : end ≡ first + countAt words (getD starts k 0)) where
-    symbol-read : (i : ℕ) → first ≤ i → i < end → getD words i 0 ≡ getD (rightOf words starts k) (i - first) 0
+  module _ {first end : ℕ} (ef : first ≡ getD places k 0 + 2) (ee : end ≡ first + countAt words (getD places k 0)) where
+    symbol-read : (i : ℕ) → first ≤ i → i < end → getD words i 0 ≡ getD (rightOf words places k) (i - first) 0
     symbol-read i l h =
-        let at = getD starts k 0 in
+        let at = getD places k 0 in
         let same : at + 2 + (i - first) ≡ i = omega (arith, ef) in
         sym
         (ap (λ (w : List ℕ). getD w (i - first) 0) right-is
@@ -252,26 +252,26 @@ module _ {words starts : List ℕ} {k : ℕ} (stands : Stands words starts k) wh
         ∙ getD-drop (at + 2) words (i - first) 0 ∙ ap (λ (j : ℕ). getD words j 0) same)
 
     module _ (table : List ℕ) (n : ℕ) where
-      pub rule-begins : (a x : List ℕ) (p : Lengths) → RuleTurn words starts table n k first a a x x p p first
+      pub rule-begins : (a x : List ℕ) (p : Lengths) → RuleTurn words places table n k first a a x x p p first
       rule-begins a x p =
           let none : first - first ≡ 0 = omega arith in
-          (omega arith, rw none (turns-begin words starts table n (rightOf words starts k) a x p))
+          (omega arith, rw none (turns-begin words places table n (rightOf words places k) a x p))
 
       -- the next symbol is among the rule's, and so smaller than the rule
       next-within : (i : ℕ) → first ≤ i → i < end →
-          sizesBy n table (take (i - first) (rightOf words starts k)) + sizeBy n table (getD words i 0) ≤
-          sizesBy n table (rightOf words starts k)
+          sizesBy n table (take (i - first) (rightOf words places k)) + sizeBy n table (getD words i 0) ≤
+          sizesBy n table (rightOf words places k)
       next-within i l h =
-          rw (symbol-read i l h) (sizes-within n table (rightOf words starts k) (i - first) (omega (arith, right-count, ee)))
+          rw (symbol-read i l h) (sizes-within n table (rightOf words places k) (i - first) (omega (arith, right-count, ee)))
 
       pub rule-falls : (i : ℕ) → first ≤ i → i < end →
-          2 * sizeBy n table (getD words i 0) < 2 * sizesBy n table (rightOf words starts k) + 1
+          2 * sizeBy n table (getD words i 0) < 2 * sizesBy n table (rightOf words places k) + 1
       rule-falls i l h = omega (arith, next-within i l h)
 
       -- it can be listed, and is
       module _ {a b x y : List ℕ} {p q : Lengths} {i : ℕ} where
-        pub rule-next : {past : Lengths} → RuleReady words starts table n k past → p ≡ oneRule past →
-            RuleTurn words starts table n k first a b x y p q i → i < end → SymbolReady words starts table n (getD words i 0) q
+        pub rule-next : {past : Lengths} → RuleReady words places table n k past → p ≡ oneRule past →
+            RuleTurn words places table n k first a b x y p q i → i < end → SymbolReady words places table n (getD words i 0) q
         rule-next ready one (l, turn) h =
             let tokens = ap (λ (m : Lengths). m .tokens) one in
             let rules = ap (λ (m : Lengths). m .rules) one in
@@ -281,14 +281,14 @@ module _ {words starts : List ℕ} {k : ℕ} (stands : Stands words starts k) wh
               few = omega (arith, ready .few, turn .done .counted, next-within i l h, tokens, rules);
             }
 
-        pub rule-goes-on : {c z : List ℕ} {r : Lengths} → RuleTurn words starts table n k first a b x y p q i → i < end →
-            SymbolWritten words starts table n (getD words i 0) b c y z q r →
-            RuleTurn words starts table n k first a c x z p r (i + 1)
+        pub rule-goes-on : {c z : List ℕ} {r : Lengths} → RuleTurn words places table n k first a b x y p q i → i < end →
+            SymbolWritten words places table n (getD words i 0) b c y z q r →
+            RuleTurn words places table n k first a c x z p r (i + 1)
         rule-goes-on (l, turn) h one =
             let step : i + 1 - first ≡ i - first + 1 = omega arith in
             (omega arith, rw step (turn-goes-on turn (omega (arith, right-count, ee)) (rw (symbol-read i l h) at one)))
 
       -- after the last one, with the rule's number before them
       pub rule-ends : {a b x x₁ y : List ℕ} {p p₁ q : Lengths} {i : ℕ} → p₁ ≡ oneRule p → x₁ ≡ set x (p .rules) k →
-          RuleTurn words starts table n k first a b x₁ y p₁ q i → end ≤ i → RuleWritten words starts table n k a b x y p q
+          RuleTurn words places table n k first a b x₁ y p₁ q i → end ≤ i → RuleWritten words places table n k a b x y p q
       rule-ends one e (l, turn) h = numbered one e (symbols-listed turn (omega (arith, right-count, ee)))

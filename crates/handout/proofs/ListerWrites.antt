@@ -14,14 +14,14 @@ use Rattle.grammar.specs.Tree.{Forest, sentences, derivations}
 use Rattle.grammar.specs.Measure.{plain}
 use Rattle.grammar.specs.Least.{ChosenForest}
 use Rattle.grammar.proofs.SameListing.{same-forest}
-use Rattle.grammar.proofs.RulesInView.{viewed-right}
+use Rattle.layout.proofs.RulesInView.{viewed-right}
 use Rattle.handout.specs.declared.lister.Lengths.{Lengths}
 use Rattle.handout.specs.Listing.{Known, Wrote, RuleWritten}
 
-module _ {words starts table : List ℕ} {n : ℕ} {g : Grammar} (known : Known words starts table n g) where
+module _ {words places table : List ℕ} {n : ℕ} {g : Grammar} (known : Known words places table n g) where
   module _ {a b x y : List ℕ} {p q : Lengths} where
     -- LISTER: the rule's number, and every chosen forest of its symbols
-    pub rule-written : {k A : ℕ} {w : List ℕ} → RuleWritten words starts table n k a b x y p q → RuleAt g k A w →
+    pub rule-written : {k A : ℕ} {w : List ℕ} → RuleWritten words places table n k a b x y p q → RuleAt g k A w →
         (f : Forest g w) → ChosenForest plain g f → Wrote (sentences f) (k ∷ derivations f) a b x y p q
     rule-written h rule f chosen =
         let l = h .listed g known in

@@ -19,7 +19,7 @@ use Rattle.grammar.proofs.LayoutExact.{in-bounds}
 use Rattle.grammar.proofs.Unique.{least-unique, sizes-unique}
 use Rattle.tables.specs.Table.{entry}
 use Rattle.tables.proofs.Main.{entry-front}
-use Rattle.grammar.proofs.RulesInView.{viewed-right}
+use Rattle.layout.proofs.RulesInView.{viewed-right}
 use Rattle.handout.specs.declared.lister.Lengths.{Lengths}
 use Rattle.handout.specs.Listing.{Known, sizeBy, sizesBy, rightOf, SymbolListed, of-terminal, of-nonterminal, SymbolsListed}
 use Rattle.handout.specs.Listing.{Wrote}
@@ -94,7 +94,7 @@ unfolding sizesBy sizeBy wordSize symbolSize
 sizes-are g table [] = refl
 sizes-are g table (s ∷ w) = ap (λ x. sizeBy (g .N) table s + x) (sizes-are g table w)
 
-module _ {words starts table : List ℕ} {n : ℕ} {g : Grammar} (known : Known words starts table n g) where
+module _ {words places table : List ℕ} {n : ℕ} {g : Grammar} (known : Known words places table n g) where
   known-least : (A : ℕ) → A < g .N → Least plain g A (entry table A 0)
   known-least A lt = rw (entry-front g table A 0 lt (omega arith)) at (known .tabled .leasts A lt)
 
@@ -102,7 +102,7 @@ module _ {words starts table : List ℕ} {n : ℕ} {g : Grammar} (known : Known 
   known-chosen A lt = rw (entry-front g table A 1 lt (omega arith)) at (known .tabled .chosen A lt)
 
   -- a rule's size is 1 plus those of its symbols as the lister reads them
-  pub rule-size-by : {A k x : ℕ} → RuleSize plain g A k x → x ≡ 1 + sizesBy n table (rightOf words starts k)
+  pub rule-size-by : {A k x : ℕ} → RuleSize plain g A k x → x ≡ 1 + sizesBy n table (rightOf words places k)
   rule-size-by r =
       let right = viewed-right (known .view) (r .rule) in
       let others = sizes-unique (r .sizes) (word-sizes plain g (λ A. entry table A 0) known-least (r .w)) in
@@ -111,9 +111,9 @@ module _ {words starts table : List ℕ} {n : ℕ} {g : Grammar} (known : Known 
 
   -- the chosen rule of s, with its right side as the lister reads it
   pub record ChosenRule (s k : ℕ) : Type 0 where
-    pub rule : RuleAt g k s (rightOf words starts k)
+    pub rule : RuleAt g k s (rightOf words places k)
     pub chosen : Chosen plain g s k
-    pub size : sizeBy n table s ≡ 1 + sizesBy n table (rightOf words starts k)
+    pub size : sizeBy n table s ≡ 1 + sizesBy n table (rightOf words places k)
 
   pub chosen-rule : (s k : ℕ) → s < n → k ≡ entry table s 1 → ChosenRule s k
   chosen-rule s k h e =

@@ -12,16 +12,16 @@ use Rattle.grammar.specs.Tree.{Tree, sentence, derivation}
 use Rattle.grammar.specs.Measure.{plain}
 use Rattle.grammar.specs.Least.{TreeOf}
 use Rattle.grammar.proofs.LayoutExact.{layout-exact, in-bounds}
-use Rattle.grammar.proofs.WordsRead.{starts-of}
+use Rattle.layout.proofs.WordsRead.{places-of}
 use Rattle.grammar.proofs.TreeOfExists.{tree-of-exists}
 use Rattle.grammar.proofs.Totals.{tree-of-total}
 use Rattle.grammar.proofs.SizeIsLength.{size-is-length}
 use Rattle.grammar.proofs.Unique.{total-unique}
 use Rattle.tables.proofs.Main.{total-front}
 use Rattle.grammar.proofs.RuleNumbers.{rule-number}
-use Rattle.grammar.specs.Judge.{startsOf}
+use Rattle.layout.specs.Judge.{placesOf}
 use Rattle.tables.specs.Promise as tables
-use Rattle.tables.specs.Promise.{startsWith}
+use Rattle.tables.specs.Promise.{placesWith}
 use Rattle.tables.specs.declared.Testing.{Testing}
 use Rattle.tables.specs.declared.TableTest.{TableTest}
 use Rattle.tables.specs.declared.TableTest.the-variants as test
@@ -60,20 +60,20 @@ module _ {words table : List ℕ} (before : Lent) where
 
 -- and else the table is the grammar's, whose rules stand where the test noted them
 pub own-table : {words table : List ℕ} {r : Testing} {rules : ℕ} → tables.TestPromise words table r → r .answer ≡ test.Its rules →
-    Tabled words (r .starts) table rules
-own-table {words} {table} {r} p is = go (rw is at (p .tested)) (p .stand ∙ ap (λ a. startsWith a (startsOf (layout words))) is)
+    Tabled words (r .places) table rules
+own-table {words} {table} {r} p is = go (rw is at (p .tested)) (p .stand ∙ ap (λ a. placesWith a (placesOf (layout words))) is)
   where
-    go : {rules : ℕ} → tables.Tested words table (test.Its rules) → r .starts ≡ startsOf (layout words) →
-        Tabled words (r .starts) table rules
+    go : {rules : ℕ} → tables.Tested words table (test.Its rules) → r .places ≡ placesOf (layout words) →
+        Tabled words (r .places) table rules
     go (tables.its {g = g} e a h) s = record {
       g = g;
       accepted = a;
-      known = record { view = starts-of words e s; tabled = h };
+      known = record { view = places-of words e s; tabled = h };
       all-rules = refl;
     }
 
 -- with the table: 9, Finished, or a target
-module _ {words starts table : List ℕ} {rules : ℕ} (t : Tabled words starts table rules) where
+module _ {words places table : List ℕ} {rules : ℕ} (t : Tabled words places table rules) where
   pub refuses-9 : (before : Lent) → length (before .marks) < rules → NextPromise words table before (Refused 9 rules) before
   refuses-9 before l =
       let n = t .all-rules in
@@ -87,7 +87,7 @@ module _ {words starts table : List ℕ} {rules : ℕ} (t : Tabled words starts 
         finished (t .known .view .is) (t .accepted) (t .known .tabled) (omega arith) (none-found (t .g) f n q)
 
     pub asks : {marks : List ℕ} {r : ℕ} → FirstUnused marks rules found → found ≡ At r → rules ≤ length marks →
-        Asked words starts table marks r
+        Asked words places table marks r
     asks {r = r} f q l =
         let n = t .all-rules in
         record {
@@ -99,7 +99,7 @@ module _ {words starts table : List ℕ} {rules : ℕ} (t : Tabled words starts 
         }
 
 -- the target's tree
-module _ {words starts table marks : List ℕ} {r : ℕ} (a : Asked words starts table marks r) where
+module _ {words places table marks : List ℕ} {r : ℕ} (a : Asked words places table marks r) where
   tree-of : (t : Tree (a .g) (a .g .start)) × TreeOf plain (a .g) r t
   tree-of =
       let ok = in-bounds words (a .known .view .is) in
@@ -120,7 +120,7 @@ module _ {words starts table marks : List ℕ} {r : ℕ} (a : Asked words starts
 
   -- n and the start were read from the words, and the total from the table
   pub requested : {n start total : ℕ} → n ≡ getD words 0 0 → start ≡ getD words 2 0 → total ≡ getD table (5 * n + r) 0 →
-      Requested words starts table marks (record { n = n; start = start; target = r; total = total })
+      Requested words places table marks (record { n = n; start = start; target = r; total = total })
   requested w s t = record {
     asked = a;
     nonterminals = w ∙ ap (λ (x : List ℕ). getD x 0 0) words-are;
@@ -135,11 +135,11 @@ module _ {words starts table marks : List ℕ} {r : ℕ} (a : Asked words starts
       let at-first = ap (λ (x : List ℕ). getD x 0 0) words-are in
       omega (arith, a .target .such .rule, ok .at-most-256, ok .nonterminals, at-first)
 
-module _ {words starts table marks : List ℕ} {q : Request} (p : Requested words starts table marks q) where
-  known-so : Known words starts table (q .n) (p .asked .g)
+module _ {words places table marks : List ℕ} {q : Request} (p : Requested words places table marks q) where
+  known-so : Known words places table (q .n) (p .asked .g)
   known-so = rw (p .nonterminals) (p .asked .known)
 
-  pub ready : TreeReady words starts table (q .n) (q .start) (q .target)
+  pub ready : TreeReady words places table (q .n) (q .start) (q .target)
   ready = record {
     g = p .asked .g;
     known = known-so;
@@ -149,9 +149,9 @@ module _ {words starts table marks : List ℕ} {q : Request} (p : Requested word
   }
 
 -- there is room for the tree where there is as much as the table's total says, or as was counted
-module _ {words table starts : List ℕ} {n start r : ℕ} where
+module _ {words table places : List ℕ} {n start r : ℕ} where
   pub fits-total : {total : ℕ} (tokens rules : List ℕ) → total ≡ getD table (5 * n + r) 0 → total ≤ length tokens →
-      total ≤ length rules → TreeFits words starts table n start r tokens rules
+      total ≤ length rules → TreeFits words places table n start r tokens rules
   fits-total tokens rules e l m = λ g known s t tree.
       let below = rule-number (tree .rule) in
       let is = total-unique (tree-of-total plain tree) (known .tabled .totals r below) in
@@ -160,28 +160,28 @@ module _ {words table starts : List ℕ} {n start r : ℕ} where
       let size = size-is-length t in
       (omega arith, omega arith)
 
-  pub fits-counted : {so : Lengths} (tokens rules : List ℕ) → TreeCounted words starts table n start r so →
-      so .tokens ≤ length tokens → so .rules ≤ length rules → TreeFits words starts table n start r tokens rules
+  pub fits-counted : {so : Lengths} (tokens rules : List ℕ) → TreeCounted words places table n start r so →
+      so .tokens ≤ length tokens → so .rules ≤ length rules → TreeFits words places table n start r tokens rules
   fits-counted tokens rules counts l m = λ g known s t tree.
       let d = counts g known s t tree .0 in
       let e = counts g known s t tree .1 in
       (omega arith, omega arith)
 
 -- and where there is, there is for the numbers that are marked
-pub numbers-within : {words starts table marks : List ℕ} {q : Request} {so : Lengths} → Requested words starts table marks q →
-    TreeCounted words starts table (q .n) (q .start) (q .target) so → (tokens rules : List ℕ) →
-    TreeFits words starts table (q .n) (q .start) (q .target) tokens rules → so .rules ≤ length rules
+pub numbers-within : {words places table marks : List ℕ} {q : Request} {so : Lengths} → Requested words places table marks q →
+    TreeCounted words places table (q .n) (q .start) (q .target) so → (tokens rules : List ℕ) →
+    TreeFits words places table (q .n) (q .start) (q .target) tokens rules → so .rules ≤ length rules
 numbers-within p counts tokens rules fits =
     let tree = tree-of (p .asked) in
     let e = counts (p .asked .g) (known-so p) (p .starts-at) (tree .0) (tree .1) .1 in
     omega (arith, fits (p .asked .g) (known-so p) (p .starts-at) (tree .0) (tree .1) .1)
 
 -- 3, 10, or the sentence
-module _ {words starts table : List ℕ} {q : Request} (before : Lent) (p : Requested words starts table (before .marks) q) where
+module _ {words places table : List ℕ} {q : Request} (before : Lent) (p : Requested words places table (before .marks) q) where
   abbrev tree : Tree (p .asked .g) (p .asked .g .start)
   tree = tree-of (p .asked) .0
 
-  module _ {so : Lengths} (counts : TreeCounted words starts table (q .n) (q .start) (q .target) so) where
+  module _ {so : Lengths} (counts : TreeCounted words places table (q .n) (q .start) (q .target) so) where
     counted : (so .tokens ≡ length (sentence tree)) × (so .rules ≡ length (derivation tree))
     counted = counts (p .asked .g) (known-so p) (p .starts-at) tree (tree-of (p .asked) .1)
 
@@ -194,8 +194,8 @@ module _ {words starts table : List ℕ} {q : Request} (before : Lent) (p : Requ
         let d = counted .0 in let e = counted .1 in rw e (row-10 (wanted (p .asked)) (omega arith) (omega arith))
 
   -- what was written, and marked
-  module _ {tokens rules : List ℕ} {so : Lengths} (fits : TreeFits words starts table (q .n) (q .start) (q .target) (before .tokens) (before .rules))
-      (writes : TreeWritten words starts table (q .n) (q .start) (q .target) (before .tokens) tokens (before .rules) rules so) where
+  module _ {tokens rules : List ℕ} {so : Lengths} (fits : TreeFits words places table (q .n) (q .start) (q .target) (before .tokens) (before .rules))
+      (writes : TreeWritten words places table (q .n) (q .start) (q .target) (before .tokens) tokens (before .rules) rules so) where
     wrote : Wrote (sentence tree) (derivation tree) (before .tokens) tokens (before .rules) rules none-so-far so
     wrote = writes (p .asked .g) (known-so p) (p .starts-at) tree (tree-of (p .asked) .1)
 

@@ -13,7 +13,7 @@ use Rattle.grammar.specs.Least.{ChosenTree, ChosenForest, ChosenGap}
 use Rattle.grammar.proofs.SameListing.{same-forest}
 use Rattle.grammar.proofs.Unique.{chosen-unique}
 use Rattle.tables.specs.Table.{entry}
-use Rattle.grammar.proofs.RulesInView.{viewed-right}
+use Rattle.layout.proofs.RulesInView.{viewed-right}
 use Rattle.handout.specs.Listing.{Known, sizeBy, sizesBy, SymbolsListed}
 use Rattle.handout.specs.TreeListing.{before, after, gapTokens, gapRules, tokensOn, rulesOn}
 use Rattle.handout.proofs.Listings.{known-chosen, chosen-rule, terminal-size}
@@ -88,7 +88,7 @@ module _ {g : Grammar} where
       let same = same-forest plain (h .forest) refl (k .forest) (h .chosen) (k .chosen) in
       (h .tokens ∙ same .sentences-same ∙ sym (k .tokens), h .rules ∙ same .derivations-same ∙ sym (k .rules))
 
-module _ {words starts table : List ℕ} {n : ℕ} {g : Grammar} (known : Known words starts table n g) where
+module _ {words places table : List ℕ} {n : ℕ} {g : Grammar} (known : Known words places table n g) where
   mutual
     unfolding sizesBy
 

@@ -30,30 +30,30 @@ pub record Reached (table : List ℕ) (n : ℕ) (g : Grammar) (A steps a : ℕ) 
   pub fallen : steps + lower table n (entry table a 2) ≤ lower table n (entry table A 2)
 
 -- what noting them keeps: a is so many steps up from A, and those below it are noted
-pub record OnWay (words starts table : List ℕ) (start A : ℕ) (path : List ℕ) (a steps : ℕ) : Type 0 where
-  pub here : a ≡ climbed words starts table A steps
-  pub noted : (i : ℕ) → i < steps → getD path i 0 ≡ climbed words starts table A i
-  pub other : (i : ℕ) → i < steps → ¬ (climbed words starts table A i ≡ start)
-  pub leads : (n : ℕ) (g : Grammar) → Known words starts table n g → start ≡ g .start → (x : Open g A) →
+pub record OnWay (words places table : List ℕ) (start A : ℕ) (path : List ℕ) (a steps : ℕ) : Type 0 where
+  pub here : a ≡ climbed words places table A steps
+  pub noted : (i : ℕ) → i < steps → getD path i 0 ≡ climbed words places table A i
+  pub other : (i : ℕ) → i < steps → ¬ (climbed words places table A i ≡ start)
+  pub leads : (n : ℕ) (g : Grammar) → Known words places table n g → start ≡ g .start → (x : Open g A) →
       ChosenOpen plain g x → Reached table n g A steps a
 
-pub way-begins : (words starts table : List ℕ) (start A : ℕ) (path : List ℕ) → OnWay words starts table start A path A 0
+pub way-begins : (words places table : List ℕ) (start A : ℕ) (path : List ℕ) → OnWay words places table start A path A 0
 unfolding climbed
-way-begins words starts table start A path = record {
+way-begins words places table start A path = record {
   here = refl;
   noted = λ i l. absurd (omega arith);
   other = λ i l. absurd (omega arith);
   leads = λ n g known s x h. record { above = x; follows = h; fallen = omega arith };
 }
 
-module _ {words starts table : List ℕ} {start A : ℕ} {path : List ℕ} {a steps : ℕ}
-    (way : OnWay words starts table start A path a steps) where
+module _ {words places table : List ℕ} {start A : ℕ} {path : List ℕ} {a steps : ℕ}
+    (way : OnWay words places table start A path a steps) where
   -- one step up
   pub way-on : {path′ : List ℕ} {b : ℕ} → ¬ (a ≡ start) → steps < length path → path′ ≡ set path steps a →
-      b ≡ upper words starts table a → OnWay words starts table start A path′ b (steps + 1)
+      b ≡ upper words places table a → OnWay words places table start A path′ b (steps + 1)
   unfolding climbed
   way-on {path′} {b} d l p e = record {
-    here = rw (add-one steps) (e ∙ ap (upper words starts table) (way .here));
+    here = rw (add-one steps) (e ∙ ap (upper words places table) (way .here));
     noted = λ i m. noted i m (decLt i steps);
     other = λ i m. other i m (decLt i steps);
     leads = λ n g known s x h.
@@ -63,20 +63,20 @@ module _ {words starts table : List ℕ} {start A : ℕ} {path : List ℕ} {a st
         record { above = u .above; follows = u .follows; fallen = omega (arith, so .fallen, lower-falls table n b _ low (u .falls)) };
   }
     where
-      noted : (i : ℕ) → i < steps + 1 → Dec (i < steps) → getD path′ i 0 ≡ climbed words starts table A i
+      noted : (i : ℕ) → i < steps + 1 → Dec (i < steps) → getD path′ i 0 ≡ climbed words places table A i
       noted i m (yes k) =
           ap (λ (t : List ℕ). getD t i 0) p ∙ getD-set-other path steps i a 0 (λ q. omega arith) ∙ way .noted i k
       noted i m (no k) =
           let same : i ≡ steps = omega arith in
           rw same (ap (λ (t : List ℕ). getD t steps 0) p ∙ getD-set-same path steps a 0 l ∙ way .here)
 
-      other : (i : ℕ) → i < steps + 1 → Dec (i < steps) → ¬ (climbed words starts table A i ≡ start)
+      other : (i : ℕ) → i < steps + 1 → Dec (i < steps) → ¬ (climbed words places table A i ≡ start)
       other i m (yes k) = way .other i k
       other i m (no k) =
           let same : i ≡ steps = omega arith in
-          λ q. d (way .here ∙ ap (climbed words starts table A) (sym same) ∙ q)
+          λ q. d (way .here ∙ ap (climbed words places table A) (sym same) ∙ q)
 
-  module _ {path₀ : List ℕ} (ready : ClimbReady words starts table start A path₀) where
+  module _ {path₀ : List ℕ} (ready : ClimbReady words places table start A path₀) where
     so-far : Reached table (ready .n) (ready .g) A steps a
     so-far = way .leads (ready .n) (ready .g) (ready .known) (ready .starts-at) (ready .above) (ready .follows)
 
@@ -86,7 +86,7 @@ module _ {words starts table : List ℕ} {start A : ℕ} {path : List ℕ} {a st
         omega (arith, so-far .fallen, lower-within table (ready .n) A low)
 
     -- at the start
-    pub way-ends : a ≡ start → length path ≡ length path₀ → PathOf words starts table start A path steps
+    pub way-ends : a ≡ start → length path ≡ length path₀ → PathOf words places table start A path steps
     way-ends e l = record {
       short = omega (arith, few-steps, ready .long);
       noted = way .noted;
@@ -101,30 +101,30 @@ module _ {words starts table : List ℕ} {start A : ℕ} {path : List ℕ} {a st
     way-low = omega (arith, open-nonterminal (ready .known) (so-far .above), ready .known .view .nonterminals)
 
     module _ (d : ¬ (a ≡ start)) where
-      above : Up (ready .known) (so-far .above) (entry table a 3) (entry table a 4) (upper words starts table a)
+      above : Up (ready .known) (so-far .above) (entry table a 3) (entry table a 4) (upper words places table a)
       above = up (ready .known) (so-far .above) (so-far .follows) (λ e. d (e ∙ sym (ready .starts-at))) _ _ _ refl refl refl
 
       pub way-number : entry table a 3 < R (ready .g)
       way-number = rule-number (above .rule)
 
-      pub way-falls : entry table (upper words starts table a) 2 < entry table a 2
+      pub way-falls : entry table (upper words places table a) 2 < entry table a 2
       way-falls = above .falls
 
 -- over a path that is noted
-module _ {words starts table : List ℕ} {n start A steps : ℕ} {path : List ℕ} (way : PathOf words starts table start A path steps)
+module _ {words places table : List ℕ} {n start A steps : ℕ} {path : List ℕ} (way : PathOf words places table start A path steps)
   where
     -- what lies before each can be listed
-    before-at : {p : Lengths} → SideReady before words starts table n start A p → (i : ℕ) → i ≤ steps →
-        SideReady before words starts table n start (climbed words starts table A i) p
+    before-at : {p : Lengths} → SideReady before words places table n start A p → (i : ℕ) → i ≤ steps →
+        SideReady before words places table n start (climbed words places table A i) p
     unfolding climbed
     before-at ready zero l = ready
     before-at ready (suc i) l = before-ready (before-at ready i (omega arith)) (way .other i l)
 
     -- down: where what is before one is written, what is beside the next can be, and then what is before that is written
-    pub front-at : {p q : Lengths} {b : ℕ} {s t x y : List ℕ} → SideReady before words starts table n start A p →
+    pub front-at : {p q : Lengths} {b : ℕ} {s t x y : List ℕ} → SideReady before words places table n start A p →
         (i : ℕ) → 0 < i → i ≤ steps → b ≡ getD path (i - 1) 0 →
-        SideWritten before words starts table n start (climbed words starts table A i) s t x y p q →
-        FrontReady words starts table n b q
+        SideWritten before words places table n start (climbed words places table A i) s t x y p q →
+        FrontReady words places table n b q
     unfolding climbed
     front-at ready zero h l e above = absurd (omega arith)
     front-at ready (suc i) h l e above =
@@ -133,9 +133,9 @@ module _ {words starts table : List ℕ} {n start A steps : ℕ} {path : List �
         rw same (front-ready (before-at ready i (omega arith)) (way .other i l) above)
 
     pub before-goes-on : {p q r : Lengths} {b : ℕ} {s t u x y z : List ℕ} (i : ℕ) → 0 < i → i ≤ steps → b ≡ getD path (i - 1) 0 →
-        SideWritten before words starts table n start (climbed words starts table A i) s t x y p q →
-        FrontWritten words starts table n b t u y z q r →
-        SideWritten before words starts table n start (climbed words starts table A (i - 1)) s u x z p r
+        SideWritten before words places table n start (climbed words places table A i) s t x y p q →
+        FrontWritten words places table n b t u y z q r →
+        SideWritten before words places table n start (climbed words places table A (i - 1)) s u x z p r
     unfolding climbed
     before-goes-on zero h l e above front = absurd (omega arith)
     before-goes-on (suc i) h l e above front =
@@ -144,46 +144,46 @@ module _ {words starts table : List ℕ} {n start A steps : ℕ} {path : List �
         rw back (before-written (way .other i l) above (rw same at front))
 
     pub before-begins : {p : Lengths} {s x : List ℕ} →
-        SideWritten before words starts table n start (climbed words starts table A steps) s s x x p p
+        SideWritten before words places table n start (climbed words places table A steps) s s x x p p
     before-begins = start-written before (way .ends)
 
     pub before-ends : {p q : Lengths} {i : ℕ} {s t x y : List ℕ} → i ≡ 0 →
-        SideWritten before words starts table n start (climbed words starts table A i) s t x y p q →
-        SideWritten before words starts table n start A s t x y p q
+        SideWritten before words places table n start (climbed words places table A i) s t x y p q →
+        SideWritten before words places table n start A s t x y p q
     unfolding climbed
     before-ends e h = rw e at h
 
 -- up: what is written so far, and then what lies after the next one, lie after the first
-pub record AfterSo (words starts table : List ℕ) (n start A : ℕ) (a b x y : List ℕ) (p q : Lengths) (i : ℕ) : Type 0 where
-  pub ready : SideReady after words starts table n start A p →
-      SideReady after words starts table n start (climbed words starts table A i) q
+pub record AfterSo (words places table : List ℕ) (n start A : ℕ) (a b x y : List ℕ) (p q : Lengths) (i : ℕ) : Type 0 where
+  pub ready : SideReady after words places table n start A p →
+      SideReady after words places table n start (climbed words places table A i) q
   pub goes-on : (c v : List ℕ) (r : Lengths) →
-      SideWritten after words starts table n start (climbed words starts table A i) b c y v q r →
-      SideWritten after words starts table n start A a c x v p r
+      SideWritten after words places table n start (climbed words places table A i) b c y v q r →
+      SideWritten after words places table n start A a c x v p r
 
-pub after-begins : (words starts table : List ℕ) (n start A : ℕ) (a x : List ℕ) (p : Lengths) →
-    AfterSo words starts table n start A a a x x p p 0
+pub after-begins : (words places table : List ℕ) (n start A : ℕ) (a x : List ℕ) (p : Lengths) →
+    AfterSo words places table n start A a a x x p p 0
 unfolding climbed
-after-begins words starts table n start A a x p = record { ready = λ h. h; goes-on = λ c v r h. h }
+after-begins words places table n start A a x p = record { ready = λ h. h; goes-on = λ c v r h. h }
 
-module _ {words starts table : List ℕ} {n start A steps : ℕ} {path : List ℕ} (way : PathOf words starts table start A path steps)
-    {a b x y : List ℕ} {p q : Lengths} {i : ℕ} (so : AfterSo words starts table n start A a b x y p q i) where
-  pub back-at : {b′ : ℕ} → SideReady after words starts table n start A p → i < steps → b′ ≡ getD path i 0 →
-      BackReady words starts table n b′ q
+module _ {words places table : List ℕ} {n start A steps : ℕ} {path : List ℕ} (way : PathOf words places table start A path steps)
+    {a b x y : List ℕ} {p q : Lengths} {i : ℕ} (so : AfterSo words places table n start A a b x y p q i) where
+  pub back-at : {b′ : ℕ} → SideReady after words places table n start A p → i < steps → b′ ≡ getD path i 0 →
+      BackReady words places table n b′ q
   back-at ready l e = rw (e ∙ way .noted i l) (back-ready (so .ready ready) (way .other i l))
 
   pub after-goes-on : {b′ : ℕ} {d w : List ℕ} {r : Lengths} → i < steps → b′ ≡ getD path i 0 →
-      SymbolsWritten words starts table n (backOf words starts table b′) b d y w q r →
-      AfterSo words starts table n start A a d x w p r (i + 1)
+      SymbolsWritten words places table n (backOf words places table b′) b d y w q r →
+      AfterSo words places table n start A a d x w p r (i + 1)
   unfolding climbed
   after-goes-on {d = d} {w = w} {r = r} l e back =
-      let here : SymbolsWritten words starts table n (backOf words starts table (climbed words starts table A i)) b d y w q r =
+      let here : SymbolsWritten words places table n (backOf words places table (climbed words places table A i)) b d y w q r =
       rw (e ∙ way .noted i l) at back in
       rw (add-one i) (record {
         ready = λ h. after-ready (so .ready h) (way .other i l) here;
         goes-on = λ c v s above. so .goes-on c v s (after-written (way .other i l) here above);
       })
 
-  pub after-ends : i ≡ steps → SideWritten after words starts table n start A a b x y p q
+  pub after-ends : i ≡ steps → SideWritten after words places table n start A a b x y p q
   after-ends e =
-      so .goes-on b y q (start-written after (ap (climbed words starts table A) e ∙ way .ends))
+      so .goes-on b y q (start-written after (ap (climbed words places table A) e ∙ way .ends))

@@ -14,7 +14,7 @@ use Rattle.grammar.proofs.RuleNumbers.{rule-number, rule-left}
 use Rattle.grammar.proofs.Unique.{choice-unique, context-unique}
 use Rattle.tables.specs.Table.{entry}
 use Rattle.tables.proofs.Main.{entry-front}
-use Rattle.grammar.proofs.RulesInView.{viewed-left, viewed-right}
+use Rattle.layout.proofs.RulesInView.{viewed-left, viewed-right}
 use Rattle.handout.specs.declared.lister.Lengths.{Lengths}
 use Rattle.handout.specs.Listing.{Known, sizesBy, rightOf, Wrote, SymbolsWritten}
 use Rattle.handout.specs.TreeListing.{Beside, backOf, FrontReady, BackReady, FrontWritten, upper, Side, before, after}
@@ -22,7 +22,7 @@ use Rattle.handout.specs.TreeListing.{gapTokens, gapRules, tokensOn, rul
 use Rattle.handout.proofs.Listings.{and-then, nothing}
 use Rattle.handout.proofs.OpenListings.{before-listed, after-listed, gap-within, listed-same, listed-size}
 
-module _ {words starts table : List ℕ} {n : ℕ} {g : Grammar} (known : Known words starts table n g) where
+module _ {words places table : List ℕ} {n : ℕ} {g : Grammar} (known : Known words places table n g) where
   pub known-context : (A : ℕ) → A < g .N → Context plain g A (entry table A 2)
   known-context A lt = rw (entry-front g table A 2 lt (omega arith)) at (known .tabled .contexts A lt)
 
@@ -33,7 +33,7 @@ module _ {words starts table : List ℕ} {n : ℕ} {g : Grammar} (known : Known 
   -- the step up from an open leaf A to its context rule, k with A at place i, whose left side is B
   pub record Up {A : ℕ} (x : Open g A) (k i B : ℕ) : Type 0 where
     pub w : List ℕ
-    pub right : rightOf words starts k ≡ w
+    pub right : rightOf words places k ≡ w
     pub rule : RuleAt g k B w
     pub above : Open g B
     pub follows : ChosenOpen plain g above
@@ -51,7 +51,7 @@ module _ {words starts table : List ℕ} {n : ℕ} {g : Grammar} (known : Known 
   gap-nonterminal (past-child t a) = gap-nonterminal a
 
   pub up : {A : ℕ} (x : Open g A) → ChosenOpen plain g x → ¬ (A ≡ g .start) → (k i B : ℕ) → k ≡ entry table A 3 →
-      i ≡ entry table A 4 → B ≡ getD words (getD starts k 0) 0 → Up x k i B
+      i ≡ entry table A 4 → B ≡ getD words (getD places k 0) 0 → Up x k i B
   up root h d k i B ek ei eB = absurd (d refl)
   up (down {A} {B = B′} {i = i′} {w} k′ r x a) h d k i B ek ei eB =
       let lt = gap-nonterminal a in
@@ -62,7 +62,7 @@ module _ {words starts table : List ℕ} {n : ℕ} {g : Grammar} (known : Known 
       let figure : entry table A 2 ≡ h .0 .figure = context-unique (known-context A lt) (h .0 .context) in
       let kk : k ≡ k′ = ek ∙ sym fk in
       let ii : i ≡ i′ = ei ∙ sym fi in
-      let BB : B ≡ B′ = eB ∙ ap (λ m. getD words (getD starts m 0) 0) kk ∙ viewed-left (known .view) r in
+      let BB : B ≡ B′ = eB ∙ ap (λ m. getD words (getD places m 0) 0) kk ∙ viewed-left (known .view) r in
       rw (kk, ii, BB) (record {
         w = w;
         right = viewed-right (known .view) r;
@@ -95,23 +95,23 @@ pub wrote-as : {us us′ vs vs′ a b x y : List ℕ} {p q : Lengths} → us ≡
     Wrote us′ vs′ a b x y p q
 wrote-as e f h = rw (← e, ← f) h
 
-module _ {words starts table : List ℕ} {n start : ℕ} where
+module _ {words places table : List ℕ} {n start : ℕ} where
   -- nothing lies beside the start
   pub start-written : (side : Side) {A : ℕ} {a x : List ℕ} {p : Lengths} → A ≡ start →
-      SideWritten side words starts table n start A a a x x p p
+      SideWritten side words places table n start A a a x x p p
   start-written side {a = a} {x = x} {p = p} e =
       λ g known s above h.
       let (us, vs) = at-start known side above h (e ∙ s) in
       wrote-as (sym us) (sym vs) (nothing a x p)
 
   -- the step up that the tree lister takes, from what it reads of the table and the words
-  module _ {side : Side} {A : ℕ} {p : Lengths} (ready : SideReady side words starts table n start A p)
+  module _ {side : Side} {A : ℕ} {p : Lengths} (ready : SideReady side words places table n start A p)
       (d : ¬ (A ≡ start)) where
-    z : Up (ready .known) (ready .above) (entry table A 3) (entry table A 4) (upper words starts table A)
+    z : Up (ready .known) (ready .above) (entry table A 3) (entry table A 4) (upper words places table A)
     z = up (ready .known) (ready .above) (ready .follows) (λ e. d (e ∙ sym (ready .starts-at))) _ _ _ refl refl refl
 
     -- the leaf has a place in the context rule
-    beside : Beside words starts table n A (ready .g)
+    beside : Beside words places table n A (ready .g)
     beside = record {
       known = ready .known;
       leaf = omega (arith, open-nonterminal (ready .known) (ready .above), ready .known .view .nonterminals);
@@ -120,9 +120,9 @@ module _ {words starts table : List ℕ} {n start : ℕ} where
     }
 
   -- before an open leaf
-  module _ {A : ℕ} {p : Lengths} (ready : SideReady before words starts table n start A p)
+  module _ {A : ℕ} {p : Lengths} (ready : SideReady before words places table n start A p)
       (d : ¬ (A ≡ start)) where
-    abbrev u : Up (ready .known) (ready .above) (entry table A 3) (entry table A 4) (upper words starts table A)
+    abbrev u : Up (ready .known) (ready .above) (entry table A 3) (entry table A 4) (upper words places table A)
     u = z ready d
 
     tokens-long :
@@ -133,7 +133,7 @@ module _ {words starts table : List ℕ} {n start : ℕ} where
         length (rulesOn before (ready .above)) ≡ length (rulesOn before (u .above)) + suc (length (gapRules before (u .gap)))
     rules-long = ap length (u .rules-before) ∙ length-append (rulesOn before (u .above)) (entry table A 3 ∷ gapRules before (u .gap))
 
-    pub before-ready : SideReady before words starts table n start (upper words starts table A) p
+    pub before-ready : SideReady before words places table n start (upper words places table A) p
     before-ready = record {
       g = ready .g;
       known = ready .known;
@@ -144,7 +144,7 @@ module _ {words starts table : List ℕ} {n start : ℕ} where
     }
 
     pub front-ready : {a b x y : List ℕ} {q : Lengths} →
-        SideWritten before words starts table n start (upper words starts table A) a b x y p q → FrontReady words starts table n A q
+        SideWritten before words places table n start (upper words places table A) a b x y p q → FrontReady words places table n A q
     front-ready above =
         let there = above (ready .g) (ready .known) (ready .starts-at) (u .above) (u .follows) in
         let size = listed-size (ready .known) (before-listed (u .gap) (u .chosen)) in
@@ -158,8 +158,8 @@ module _ {words starts table : List ℕ} {n start : ℕ} where
         }
 
   pub before-written : {A : ℕ} {p q r : Lengths} {a b c x y v : List ℕ} → ¬ (A ≡ start) →
-      SideWritten before words starts table n start (upper words starts table A) a b x y p q →
-      FrontWritten words starts table n A b c y v q r → SideWritten before words starts table n start A a c x v p r
+      SideWritten before words places table n start (upper words places table A) a b x y p q →
+      FrontWritten words places table n A b c y v q r → SideWritten before words places table n start A a c x v p r
   before-written {A} d above front =
       λ g known s open-tree h.
       let u = up known open-tree h (λ e. d (e ∙ sym s)) _ _ _ refl refl refl in
@@ -171,9 +171,9 @@ module _ {words starts table : List ℕ} {n start : ℕ} where
       (ap (λ m. rulesOn before (u .above) ++ m) (l .lists .is ∙ ap (λ m. entry table A 3 ∷ m) vs) ∙ sym (u .rules-before)) all
 
   -- after an open leaf
-  module _ {A : ℕ} {p : Lengths} (ready : SideReady after words starts table n start A p)
+  module _ {A : ℕ} {p : Lengths} (ready : SideReady after words places table n start A p)
       (d : ¬ (A ≡ start)) where
-    abbrev u′ : Up (ready .known) (ready .above) (entry table A 3) (entry table A 4) (upper words starts table A)
+    abbrev u′ : Up (ready .known) (ready .above) (entry table A 3) (entry table A 4) (upper words places table A)
     u′ = z ready d
 
     tokens-long′ :
@@ -183,13 +183,13 @@ module _ {words starts table : List ℕ} {n start : ℕ} where
     rules-long′ : length (rulesOn after (ready .above)) ≡ length (gapRules after (u′ .gap)) + length (rulesOn after (u′ .above))
     rules-long′ = ap length (u′ .rules-after) ∙ length-append (gapRules after (u′ .gap)) (rulesOn after (u′ .above))
 
-    size′ : sizesBy n table (backOf words starts table A) ≡
+    size′ : sizesBy n table (backOf words places table A) ≡
         length (gapTokens after (u′ .gap)) + length (gapRules after (u′ .gap))
     size′ =
         ap (λ w. sizesBy n table (drop (suc (entry table A 4)) w)) (u′ .right)
         ∙ listed-size (ready .known) (after-listed (u′ .gap) (u′ .chosen))
 
-    pub back-ready : BackReady words starts table n A p
+    pub back-ready : BackReady words places table n A p
     back-ready = record {
       g = ready .g;
       beside = beside ready d;
@@ -197,8 +197,8 @@ module _ {words starts table : List ℕ} {n start : ℕ} where
     }
 
     pub after-ready : {a b x y : List ℕ} {q : Lengths} →
-        SymbolsWritten words starts table n (backOf words starts table A) a b x y p q →
-        SideReady after words starts table n start (upper words starts table A) q
+        SymbolsWritten words places table n (backOf words places table A) a b x y p q →
+        SideReady after words places table n start (upper words places table A) q
     after-ready beside = record {
       g = ready .g;
       known = ready .known;
@@ -209,9 +209,9 @@ module _ {words starts table : List ℕ} {n start : ℕ} where
     }
 
   pub after-written : {A : ℕ} {p q r : Lengths} {a b c x y v : List ℕ} → ¬ (A ≡ start) →
-      SymbolsWritten words starts table n (backOf words starts table A) a b x y p q →
-      SideWritten after words starts table n start (upper words starts table A) b c y v q r →
-      SideWritten after words starts table n start A a c x v p r
+      SymbolsWritten words places table n (backOf words places table A) a b x y p q →
+      SideWritten after words places table n start (upper words places table A) b c y v q r →
+      SideWritten after words places table n start A a c x v p r
   after-written d beside above =
       λ g known s open-tree h.
       let u = up known open-tree h (λ e. d (e ∙ sym s)) _ _ _ refl refl refl in

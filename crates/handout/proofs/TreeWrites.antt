@@ -14,7 +14,7 @@ use Rattle.grammar.proofs.SizeIsLength.{size-is-length}
 use Rattle.grammar.proofs.TreeOfExists.{tree-of-exists}
 use Rattle.grammar.proofs.Totals.{tree-of-total}
 use Rattle.grammar.proofs.Unique.{total-unique}
-use Rattle.grammar.proofs.RulesInView.{viewed-left, viewed-right}
+use Rattle.layout.proofs.RulesInView.{viewed-left, viewed-right}
 use Rattle.tables.proofs.Main.{total-front}
 use Rattle.handout.specs.declared.lister.Lengths.{Lengths}
 use Rattle.handout.specs.Listing.{RuleReady, sizesBy, rightOf, SymbolsListed, Wrote, RuleWritten}
@@ -34,15 +34,15 @@ module _ {g : Grammar} {r : ℕ} {t : Tree g (g .start)} (z : TreeOf plain g r t
   rules-are = ap derivation (z .whole) ∙ plug-rules (z .above) (node r (z .rule) (z .under))
 
 -- listed into no room, it is counted
-pub counted : {words starts table a b x y : List ℕ} {n start r : ℕ} {so : Lengths} →
-    TreeWritten words starts table n start r a b x y so → TreeCounted words starts table n start r so
+pub counted : {words places table a b x y : List ℕ} {n start r : ℕ} {so : Lengths} →
+    TreeWritten words places table n start r a b x y so → TreeCounted words places table n start r so
 counted writes = λ g known s t tree.
     let wrote = writes g known s t tree in
     let e = wrote .more-tokens in
     let f = wrote .more-rules in
     (omega arith, omega arith)
 
-module _ {words starts table : List ℕ} {n start r : ℕ} (ready : TreeReady words starts table n start r) where
+module _ {words places table : List ℕ} {n start r : ℕ} (ready : TreeReady words places table n start r) where
   the-tree : (t : Tree (ready .g) (ready .g .start)) × TreeOf plain (ready .g) r t
   the-tree =
       let ok = ready .accepted in
@@ -69,7 +69,7 @@ module _ {words starts table : List ℕ} {n start r : ℕ} (ready : TreeReady wo
 
   -- the three parts together
   parts : length (tokensOn before (the-tree .1 .above)) + length (rulesOn before (the-tree .1 .above))
-      + (1 + sizesBy n table (rightOf words starts r))
+      + (1 + sizesBy n table (rightOf words places r))
       + (length (tokensOn after (the-tree .1 .above)) + length (rulesOn after (the-tree .1 .above))) ≡ total
   parts =
       let z = the-tree .1 in
@@ -85,11 +85,11 @@ module _ {words starts table : List ℕ} {n start r : ℕ} (ready : TreeReady wo
       let rules′ = length-append vs (rulesOn after (z .above)) in
       omega (arith, tree-total, size, tokens, rules, tokens′, rules′)
 
-  module _ {A : ℕ} (left : A ≡ getD words (getD starts r 0) 0) where
+  module _ {A : ℕ} (left : A ≡ getD words (getD places r 0) 0) where
     is-left : A ≡ the-tree .1 .A
     is-left = left ∙ viewed-left (ready .known .view) (the-tree .1 .rule)
 
-    first-ready : SideReady before words starts table n start A none-so-far
+    first-ready : SideReady before words places table n start A none-so-far
     first-ready = rw is-left (record {
       g = ready .g;
       known = ready .known;
@@ -99,7 +99,7 @@ module _ {words starts table : List ℕ} {n start r : ℕ} (ready : TreeReady wo
       few = omega (arith, parts, total-few);
     })
 
-    pub climb-ready : {path : List ℕ} → 128 ≤ length path → ClimbReady words starts table start A path
+    pub climb-ready : {path : List ℕ} → 128 ≤ length path → ClimbReady words places table start A path
     climb-ready long = record {
       n = n;
       g = first-ready .g;
@@ -110,19 +110,19 @@ module _ {words starts table : List ℕ} {n start r : ℕ} (ready : TreeReady wo
       long = omega (arith, ready .known .view .nonterminals, in-bounds words (ready .known .view .is) .nonterminals);
     }
 
-    module _ {path : List ℕ} {steps : ℕ} (way : PathOf words starts table start A path steps) where
-      pub way-before : WayReady before words starts table n path steps none-so-far
+    module _ {path : List ℕ} {steps : ℕ} (way : PathOf words places table start A path steps) where
+      pub way-before : WayReady before words places table n path steps none-so-far
       way-before = record { start = start; A = A; noted = way; ready = first-ready }
 
       module _ {a b x y : List ℕ} {p : Lengths}
-          (first : WayWritten before words starts table n path steps a b x y none-so-far p) where
+          (first : WayWritten before words places table n path steps a b x y none-so-far p) where
         so-far : Wrote (tokensOn before (the-tree .1 .above)) (rulesOn before (the-tree .1 .above)) a b x y none-so-far p
         so-far =
-            let here : SideWritten before words starts table n start (the-tree .1 .A) a b x y none-so-far p =
+            let here : SideWritten before words places table n start (the-tree .1 .A) a b x y none-so-far p =
             rw is-left at (first start A way) in
             here (ready .g) (ready .known) (ready .starts-at) (the-tree .1 .above) (the-tree .1 .follows)
 
-        pub target-ready : RuleReady words starts table n r p
+        pub target-ready : RuleReady words places table n r p
         target-ready = record {
           g = ready .g;
           known = ready .known;
@@ -130,8 +130,8 @@ module _ {words starts table : List ℕ} {n start r : ℕ} (ready : TreeReady wo
           few = omega (arith, parts, total-few, so-far .more-tokens, so-far .more-rules);
         }
 
-        module _ {c v : List ℕ} {q : Lengths} (rule : RuleWritten words starts table n r b c y v p q) where
-          last-ready : SideReady after words starts table n start A q
+        module _ {c v : List ℕ} {q : Lengths} (rule : RuleWritten words places table n r b c y v p q) where
+          last-ready : SideReady after words places table n start A q
           last-ready = rw is-left (record {
             g = ready .g;
             known = ready .known;
@@ -141,12 +141,12 @@ module _ {words starts table : List ℕ} {n start r : ℕ} (ready : TreeReady wo
             few = omega (arith, parts, total-few, so-far .more-tokens, so-far .more-rules, rule .counted);
           })
 
-          pub way-after : WayReady after words starts table n path steps q
+          pub way-after : WayReady after words places table n path steps q
           way-after = record { start = start; A = A; noted = way; ready = last-ready }
 
           -- TREE: the sentence and the derivation of the rule's tree are written
-          pub tree-of-written : {d u : List ℕ} {s : Lengths} → WayWritten after words starts table n path steps c d v u q s →
-              TreeWritten words starts table n start r a d x u s
+          pub tree-of-written : {d u : List ℕ} {s : Lengths} → WayWritten after words places table n path steps c d v u q s →
+              TreeWritten words places table n start r a d x u s
           tree-of-written last =
               λ g known begin t z.
               let e = left ∙ viewed-left (known .view) (z .rule) in

@@ -11,23 +11,23 @@ use Rattle.handout.specs.declared.tree_lister.Request.{Request}
 use Rattle.handout.specs.Listing.{Known}
 
 -- rows 4 to 8 are passed: the words are a grammar's, its rules stand at these indexes and are so many, and the table is its own
-pub record Tabled (words starts table : List ℕ) (rules : ℕ) : Type 0 where
+pub record Tabled (words places table : List ℕ) (rules : ℕ) : Type 0 where
   pub g : Grammar
   pub accepted : Accepted g
-  pub known : Known words starts table (g .N) g
+  pub known : Known words places table (g .N) g
   pub all-rules : rules ≡ R g
 
 -- and so is 9, and a rule is unused
-pub record Asked (words starts table marks : List ℕ) (r : ℕ) : Type 0 where
+pub record Asked (words places table marks : List ℕ) (r : ℕ) : Type 0 where
   pub g : Grammar
   pub accepted : Accepted g
-  pub known : Known words starts table (g .N) g
+  pub known : Known words places table (g .N) g
   pub marked : R g ≤ length marks
   pub target : Lowest (Unused g marks) r
 
 -- and the request is for that rule: n and the start are the grammar's, and total is the rule's
-pub record Requested (words starts table marks : List ℕ) (q : Request) : Type 0 where
-  pub asked : Asked words starts table marks (q .target)
+pub record Requested (words places table marks : List ℕ) (q : Request) : Type 0 where
+  pub asked : Asked words places table marks (q .target)
   pub nonterminals : q .n ≡ asked .g .N
   pub starts-at : q .start ≡ asked .g .start
   pub total : q .total ≡ getD table (5 * q .n + q .target) 0

@@ -9,19 +9,19 @@ use lib.Dec.{ltb}
 use lib.ListN.{length, getD}
 use lib.Seq.{sets}
 use Rattle.grammar.specs.Words.{Grammar, R}
-use Rattle.grammar.specs.Rules.{rightAt}
-use Rattle.grammar.specs.Walk.{countAt}
+use Rattle.layout.specs.Rules.{rightAt}
+use Rattle.layout.specs.Walk.{countAt}
 use Rattle.grammar.specs.Tree.{Tree, Forest, sentence, sentences, derivation, derivations}
 use Rattle.grammar.specs.Measure.{plain}
 use Rattle.grammar.specs.Least.{ChosenTree, ChosenForest}
 use Rattle.grammar.specs.Certificates.{either}
 use Rattle.tables.specs.Table.{HasTable, entry}
-use Rattle.grammar.proofs.RulesInView.{View}
+use Rattle.layout.specs.View.{View}
 use Rattle.handout.specs.declared.lister.Lengths.{Lengths}
 
 -- the words are a grammar's, its rules stand at these indexes, and the table is its own
-pub record Known (words starts table : List ℕ) (n : ℕ) (g : Grammar) : Type 0 where
-  pub view : View words starts n (R g) g
+pub record Known (words places table : List ℕ) (n : ℕ) (g : Grammar) : Type 0 where
+  pub view : View words places n (R g) g
   pub tabled : HasTable g table
 
 -- a symbol's size by the table, and the sizes of some symbols: what their listings take, and what falls from call to call
@@ -34,33 +34,33 @@ sizesBy n table (s ∷ w) = sizeBy n table s + sizesBy n table w
 
 -- the right side of rule k
 abbrev pub rightOf : List ℕ → List ℕ → ℕ → List ℕ
-rightOf words starts k = rightAt words (getD starts k 0)
+rightOf words places k = rightAt words (getD places k 0)
 
 -- so many tokens and rule numbers in one number: 65,536 for each token, 1 for each rule number
 abbrev pub lengths : ℕ → Lengths
 lengths m = record { tokens = m / 65536; rules = m % 65536 }
 
--- where the starts say, a rule stands whole in the words
-pub record Stands (words starts : List ℕ) (k : ℕ) : Type 0 where
+-- where the places say, a rule stands whole in the words
+pub record Stands (words places : List ℕ) (k : ℕ) : Type 0 where
   pub number : k < 256
   pub few : length words ≤ 8707
-  pub whole : getD starts k 0 + 2 + countAt words (getD starts k 0) ≤ length words
+  pub whole : getD places k 0 + 2 + countAt words (getD places k 0) ≤ length words
 
 -- a symbol, a rule, or some symbols can be listed: the lengths so far and the size of what is to come are few enough to count
-pub record SymbolReady (words starts table : List ℕ) (n s : ℕ) (past : Lengths) : Type 0 where
+pub record SymbolReady (words places table : List ℕ) (n s : ℕ) (past : Lengths) : Type 0 where
   pub g : Grammar
-  pub known : Known words starts table n g
+  pub known : Known words places table n g
   pub few : past .tokens + past .rules + sizeBy n table s ≤ 4096
 
-pub record RuleReady (words starts table : List ℕ) (n k : ℕ) (past : Lengths) : Type 0 where
+pub record RuleReady (words places table : List ℕ) (n k : ℕ) (past : Lengths) : Type 0 where
   pub g : Grammar
-  pub known : Known words starts table n g
+  pub known : Known words places table n g
   pub number : k < R g
-  pub few : past .tokens + past .rules + (1 + sizesBy n table (rightOf words starts k)) ≤ 4096
+  pub few : past .tokens + past .rules + (1 + sizesBy n table (rightOf words places k)) ≤ 4096
 
-pub record SymbolsReady (words starts table : List ℕ) (n : ℕ) (w : List ℕ) (past : Lengths) : Type 0 where
+pub record SymbolsReady (words places table : List ℕ) (n : ℕ) (w : List ℕ) (past : Lengths) : Type 0 where
   pub g : Grammar
-  pub known : Known words starts table n g
+  pub known : Known words places table n g
   pub few : past .tokens + past .rules + sizesBy n table w ≤ 4096
 
 -- the tokens us and the rule numbers vs list the symbol s, opened by chosen rules
@@ -96,20 +96,20 @@ pub record Listed (P : List ℕ → List ℕ → Type 0) (tokens tokens′ rules
   pub wrote : Wrote us vs tokens tokens′ rules rules′ past so
 
 -- for each grammar that the words can be, which is one; and the lengths grew by the size
-pub record Written (words starts table : List ℕ) (n : ℕ) (P : Grammar → List ℕ → List ℕ → Type 0) (size : ℕ)
+pub record Written (words places table : List ℕ) (n : ℕ) (P : Grammar → List ℕ → List ℕ → Type 0) (size : ℕ)
     (tokens tokens′ rules rules′ : List ℕ) (past so : Lengths) : Type 0 where
   pub counted : so .tokens + so .rules ≡ past .tokens + past .rules + size
-  pub listed : (g : Grammar) → Known words starts table n g → Listed (P g) tokens tokens′ rules rules′ past so
+  pub listed : (g : Grammar) → Known words places table n g → Listed (P g) tokens tokens′ rules rules′ past so
 
 abbrev pub SymbolWritten : List ℕ → List ℕ → List ℕ → ℕ → ℕ → List ℕ → List ℕ → List ℕ → List ℕ → Lengths → Lengths → Type 0
-SymbolWritten words starts table n s tokens tokens′ rules rules′ past so =
-    Written words starts table n (λ g. SymbolListed g s) (sizeBy n table s) tokens tokens′ rules rules′ past so
+SymbolWritten words places table n s tokens tokens′ rules rules′ past so =
+    Written words places table n (λ g. SymbolListed g s) (sizeBy n table s) tokens tokens′ rules rules′ past so
 
 abbrev pub RuleWritten : List ℕ → List ℕ → List ℕ → ℕ → ℕ → List ℕ → List ℕ → List ℕ → List ℕ → Lengths → Lengths → Type 0
-RuleWritten words starts table n k tokens tokens′ rules rules′ past so =
-    Written words starts table n (λ g. RuleListed g k (rightOf words starts k)) (1 + sizesBy n table (rightOf words starts k))
+RuleWritten words places table n k tokens tokens′ rules rules′ past so =
+    Written words places table n (λ g. RuleListed g k (rightOf words places k)) (1 + sizesBy n table (rightOf words places k))
     tokens tokens′ rules rules′ past so
 
 abbrev pub SymbolsWritten : List ℕ → List ℕ → List ℕ → ℕ → List ℕ → List ℕ → List ℕ → List ℕ → List ℕ → Lengths → Lengths → Type 0
-SymbolsWritten words starts table n w tokens tokens′ rules rules′ past so =
-    Written words starts table n (λ g. SymbolsListed g w) (sizesBy n table w) tokens tokens′ rules rules′ past so
+SymbolsWritten words places table n w tokens tokens′ rules rules′ past so =
+    Written words places table n (λ g. SymbolsListed g w) (sizesBy n table w) tokens tokens′ rules rules′ past so

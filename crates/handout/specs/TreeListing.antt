@@ -17,50 +17,50 @@ use Rattle.handout.specs.declared.lister.Lengths.{Lengths}
 use Rattle.handout.specs.Listing.{Known, sizesBy, rightOf, RuleListed, Wrote, Written}
 
 -- A is no start, and has a place in its context rule
-pub record Beside (words starts table : List ℕ) (n A : ℕ) (g : Grammar) : Type 0 where
-  pub known : Known words starts table n g
+pub record Beside (words places table : List ℕ) (n A : ℕ) (g : Grammar) : Type 0 where
+  pub known : Known words places table n g
   pub leaf : A < n
   pub number : entry table A 3 < R g
-  pub place : entry table A 4 < length (rightOf words starts (entry table A 3))
+  pub place : entry table A 4 < length (rightOf words places (entry table A 3))
 
 -- the symbols before A's place in its context rule, and those after it
 abbrev pub frontOf : List ℕ → List ℕ → List ℕ → ℕ → List ℕ
-frontOf words starts table A = take (entry table A 4) (rightOf words starts (entry table A 3))
+frontOf words places table A = take (entry table A 4) (rightOf words places (entry table A 3))
 
 abbrev pub backOf : List ℕ → List ℕ → List ℕ → ℕ → List ℕ
-backOf words starts table A = drop (suc (entry table A 4)) (rightOf words starts (entry table A 3))
+backOf words places table A = drop (suc (entry table A 4)) (rightOf words places (entry table A 3))
 
 -- the number of A's context rule and the symbols before the place can be listed; and those after it
-pub record FrontReady (words starts table : List ℕ) (n A : ℕ) (past : Lengths) : Type 0 where
+pub record FrontReady (words places table : List ℕ) (n A : ℕ) (past : Lengths) : Type 0 where
   pub g : Grammar
-  pub beside : Beside words starts table n A g
-  pub few : past .tokens + past .rules + (1 + sizesBy n table (frontOf words starts table A)) ≤ 4096
+  pub beside : Beside words places table n A g
+  pub few : past .tokens + past .rules + (1 + sizesBy n table (frontOf words places table A)) ≤ 4096
 
-pub record BackReady (words starts table : List ℕ) (n A : ℕ) (past : Lengths) : Type 0 where
+pub record BackReady (words places table : List ℕ) (n A : ℕ) (past : Lengths) : Type 0 where
   pub g : Grammar
-  pub beside : Beside words starts table n A g
-  pub few : past .tokens + past .rules + sizesBy n table (backOf words starts table A) ≤ 4096
+  pub beside : Beside words places table n A g
+  pub few : past .tokens + past .rules + sizesBy n table (backOf words places table A) ≤ 4096
 
 -- the number and the symbols before the place are written
 abbrev pub FrontWritten : List ℕ → List ℕ → List ℕ → ℕ → ℕ → List ℕ → List ℕ → List ℕ → List ℕ → Lengths → Lengths → Type 0
-FrontWritten words starts table n A tokens tokens′ rules rules′ past so =
-    Written words starts table n (λ g. RuleListed g (entry table A 3) (frontOf words starts table A))
-    (1 + sizesBy n table (frontOf words starts table A)) tokens tokens′ rules rules′ past so
+FrontWritten words places table n A tokens tokens′ rules rules′ past so =
+    Written words places table n (λ g. RuleListed g (entry table A 3) (frontOf words places table A))
+    (1 + sizesBy n table (frontOf words places table A)) tokens tokens′ rules rules′ past so
 
 -- the left side of A's context rule, and the nonterminal so many steps up
 abbrev pub upper : List ℕ → List ℕ → List ℕ → ℕ → ℕ
-upper words starts table A = getD words (getD starts (entry table A 3) 0) 0
+upper words places table A = getD words (getD places (entry table A 3) 0) 0
 
 unfoldable pub climbed : List ℕ → List ℕ → List ℕ → ℕ → ℕ → ℕ
-climbed words starts table A zero = A
-climbed words starts table A (suc i) = upper words starts table (climbed words starts table A i)
+climbed words places table A zero = A
+climbed words places table A (suc i) = upper words places table (climbed words places table A i)
 
 -- the path holds the nonterminals from A up to the start, which is so many steps up
-pub record PathOf (words starts table : List ℕ) (start A : ℕ) (path : List ℕ) (steps : ℕ) : Type 0 where
+pub record PathOf (words places table : List ℕ) (start A : ℕ) (path : List ℕ) (steps : ℕ) : Type 0 where
   pub short : steps ≤ length path
-  pub noted : (i : ℕ) → i < steps → getD path i 0 ≡ climbed words starts table A i
-  pub other : (i : ℕ) → i < steps → ¬ (climbed words starts table A i ≡ start)
-  pub ends : climbed words starts table A steps ≡ start
+  pub noted : (i : ℕ) → i < steps → getD path i 0 ≡ climbed words places table A i
+  pub other : (i : ℕ) → i < steps → ¬ (climbed words places table A i ≡ start)
+  pub ends : climbed words places table A steps ≡ start
 
 -- the two sides of an open leaf
 pub data Side : Type 0 where
@@ -98,50 +98,50 @@ module _ {g : Grammar} where
   rulesOn after (down k r x a) = gapRules after a ++ rulesOn after x
 
 -- the context choices lead from the start to A, and what lies on that side is little enough to count
-pub record SideReady (side : Side) (words starts table : List ℕ) (n start A : ℕ) (past : Lengths) : Type 0 where
+pub record SideReady (side : Side) (words places table : List ℕ) (n start A : ℕ) (past : Lengths) : Type 0 where
   pub g : Grammar
-  pub known : Known words starts table n g
+  pub known : Known words places table n g
   pub starts-at : start ≡ g .start
   pub above : Open g A
   pub follows : ChosenOpen plain g above
   pub few : past .tokens + past .rules + (length (tokensOn side above) + length (rulesOn side above)) ≤ 4096
 
 -- they lead so far, and the path has room for as many as there are nonterminals
-pub record ClimbReady (words starts table : List ℕ) (start A : ℕ) (path : List ℕ) : Type 0 where
+pub record ClimbReady (words places table : List ℕ) (start A : ℕ) (path : List ℕ) : Type 0 where
   pub n : ℕ
   pub g : Grammar
-  pub known : Known words starts table n g
+  pub known : Known words places table n g
   pub starts-at : start ≡ g .start
   pub above : Open g A
   pub follows : ChosenOpen plain g above
   pub long : n ≤ length path
 
 -- the path is noted, and what lies on that side of its lowest nonterminal can be listed
-pub record WayReady (side : Side) (words starts table : List ℕ) (n : ℕ) (path : List ℕ) (steps : ℕ) (past : Lengths) :
+pub record WayReady (side : Side) (words places table : List ℕ) (n : ℕ) (path : List ℕ) (steps : ℕ) (past : Lengths) :
     Type 0 where
   pub start : ℕ
   pub A : ℕ
-  pub noted : PathOf words starts table start A path steps
-  pub ready : SideReady side words starts table n start A past
+  pub noted : PathOf words places table start A path steps
+  pub ready : SideReady side words places table n start A past
 
 -- it is written, by whichever context choices
 abbrev pub SideWritten : Side → List ℕ → List ℕ → List ℕ → ℕ → ℕ → ℕ → List ℕ → List ℕ → List ℕ → List ℕ → Lengths → Lengths →
     Type 0
-SideWritten side words starts table n start A tokens tokens′ rules rules′ past so =
-    (g : Grammar) → Known words starts table n g → start ≡ g .start → (above : Open g A) → ChosenOpen plain g above →
+SideWritten side words places table n start A tokens tokens′ rules rules′ past so =
+    (g : Grammar) → Known words places table n g → start ≡ g .start → (above : Open g A) → ChosenOpen plain g above →
     Wrote (tokensOn side above) (rulesOn side above) tokens tokens′ rules rules′ past so
 
 -- whichever nonterminal the path leads up from
 abbrev pub WayWritten : Side → List ℕ → List ℕ → List ℕ → ℕ → List ℕ → ℕ → List ℕ → List ℕ → List ℕ → List ℕ → Lengths → Lengths →
     Type 0
-WayWritten side words starts table n path steps tokens tokens′ rules rules′ past so =
-    (start A : ℕ) → PathOf words starts table start A path steps →
-    SideWritten side words starts table n start A tokens tokens′ rules rules′ past so
+WayWritten side words places table n path steps tokens tokens′ rules rules′ past so =
+    (start A : ℕ) → PathOf words places table start A path steps →
+    SideWritten side words places table n start A tokens tokens′ rules rules′ past so
 
 -- the tree of a rule can be listed, and is
-pub record TreeReady (words starts table : List ℕ) (n start r : ℕ) : Type 0 where
+pub record TreeReady (words places table : List ℕ) (n start r : ℕ) : Type 0 where
   pub g : Grammar
-  pub known : Known words starts table n g
+  pub known : Known words places table n g
   pub starts-at : start ≡ g .start
   pub accepted : Accepted g
   pub number : r < R g
@@ -150,17 +150,17 @@ abbrev pub none-so-far : Lengths
 none-so-far = record { tokens = 0; rules = 0 }
 
 abbrev pub TreeWritten : List ℕ → List ℕ → List ℕ → ℕ → ℕ → ℕ → List ℕ → List ℕ → List ℕ → List ℕ → Lengths → Type 0
-TreeWritten words starts table n start r tokens tokens′ rules rules′ so =
-    (g : Grammar) → Known words starts table n g → start ≡ g .start → (t : Tree g (g .start)) → TreeOf plain g r t →
+TreeWritten words places table n start r tokens tokens′ rules rules′ so =
+    (g : Grammar) → Known words places table n g → start ≡ g .start → (t : Tree g (g .start)) → TreeOf plain g r t →
     Wrote (sentence t) (derivation t) tokens tokens′ rules rules′ none-so-far so
 
 abbrev pub TreeCounted : List ℕ → List ℕ → List ℕ → ℕ → ℕ → ℕ → Lengths → Type 0
-TreeCounted words starts table n start r so =
-    (g : Grammar) → Known words starts table n g → start ≡ g .start → (t : Tree g (g .start)) → TreeOf plain g r t →
+TreeCounted words places table n start r so =
+    (g : Grammar) → Known words places table n g → start ≡ g .start → (t : Tree g (g .start)) → TreeOf plain g r t →
     (so .tokens ≡ length (sentence t)) × (so .rules ≡ length (derivation t))
 
 -- there is room for it
 abbrev pub TreeFits : List ℕ → List ℕ → List ℕ → ℕ → ℕ → ℕ → List ℕ → List ℕ → Type 0
-TreeFits words starts table n start r tokens rules =
-    (g : Grammar) → Known words starts table n g → start ≡ g .start → (t : Tree g (g .start)) → TreeOf plain g r t →
+TreeFits words places table n start r tokens rules =
+    (g : Grammar) → Known words places table n g → start ≡ g .start → (t : Tree g (g .start)) → TreeOf plain g r t →
     (length (sentence t) ≤ length tokens) × (length (derivation t) ≤ length rules)

@@ -11,19 +11,19 @@ use crate::marks::first_unused;
 use crate::marks::mark_rules;
 use crate::tree_lister::Request;
 use crate::tree_lister::list_tree;
-use grammar::words::word;
+use layout::words::word;
 
 // With the grammar's own table: 9, Finished, or a sentence.
 pub fn with_table(
     words: &[u16],
-    starts: &[u16; 256],
+    places: &[u16; 256],
     rules: usize,
     table: &[u16],
     marks: &mut [u8],
     sentence: &mut [u16],
     derivation: &mut [u16],
 ) -> NextAnswer
-    requires { ⌜ Tabled (now words) (now starts) (now table) rules ⌝ }
+    requires { ⌜ Tabled (now words) (now places) (now table) rules ⌝ }
     ensures { λ r. ⌜ NextPromise (now (words .entry)) (now (table .entry))
         (record { marks = now (marks .entry); tokens = now (sentence .entry); rules = now (derivation .entry) }) r
         (record { marks = now (marks .exit); tokens = now (sentence .exit); rules = now (derivation .exit) }) ⌝ }
@@ -36,7 +36,7 @@ pub fn with_table(
     }
     match first_unused(marks, rules) {
         Found::Nothing => NextAnswer::Finished,
-        Found::At(target) => hand_out(words, starts, table, target, marks, sentence, derivation),
+        Found::At(target) => hand_out(words, places, table, target, marks, sentence, derivation),
     }
 }
 
@@ -44,14 +44,14 @@ pub fn with_table(
 // the derivation; otherwise they are counted first.
 fn hand_out(
     words: &[u16],
-    starts: &[u16; 256],
+    places: &[u16; 256],
     table: &[u16],
     target: usize,
     marks: &mut [u8],
     sentence: &mut [u16],
     derivation: &mut [u16],
 ) -> NextAnswer
-    requires { ⌜ Asked (now words) (now starts) (now table) (now marks) target ⌝ }
+    requires { ⌜ Asked (now words) (now places) (now table) (now marks) target ⌝ }
     ensures { λ r. ⌜ NextPromise (now (words .entry)) (now (table .entry))
         (record { marks = now (marks .entry); tokens = now (sentence .entry); rules = now (derivation .entry) }) r
         (record { marks = now (marks .exit); tokens = now (sentence .exit); rules = now (derivation .exit) }) ⌝ }
@@ -66,9 +66,9 @@ fn hand_out(
         total,
     };
     if both_within(total, sentence.len(), derivation.len()) {
-        return write_out(words, starts, table, request, marks, sentence, derivation);
+        return write_out(words, places, table, request, marks, sentence, derivation);
     }
-    count_first(words, starts, table, request, marks, sentence, derivation)
+    count_first(words, places, table, request, marks, sentence, derivation)
 }
 
 fn both_within(total: usize, tokens: usize, rules: usize) -> bool
@@ -83,21 +83,21 @@ fn both_within(total: usize, tokens: usize, rules: usize) -> bool
 // Counted first, so that 3 and 10 are known before a word is written.
 fn count_first(
     words: &[u16],
-    starts: &[u16; 256],
+    places: &[u16; 256],
     table: &[u16],
     request: Request,
     marks: &mut [u8],
     sentence: &mut [u16],
     derivation: &mut [u16],
 ) -> NextAnswer
-    requires { ⌜ Requested (now words) (now starts) (now table) (now marks) request ⌝ }
+    requires { ⌜ Requested (now words) (now places) (now table) (now marks) request ⌝ }
     ensures { λ r. ⌜ NextPromise (now (words .entry)) (now (table .entry))
         (record { marks = now (marks .entry); tokens = now (sentence .entry); rules = now (derivation .entry) }) r
         (record { marks = now (marks .exit); tokens = now (sentence .exit); rules = now (derivation .exit) }) ⌝ }
 {
     let mut no_tokens = [0u16; 0];
     let mut no_rules = [0u16; 0];
-    let counted = list_tree(words, starts, table, request, &mut no_tokens, &mut no_rules);
+    let counted = list_tree(words, places, table, request, &mut no_tokens, &mut no_rules);
     let tokens = counted.tokens;
     let numbers = counted.rules;
     if sentence.len() < tokens {
@@ -112,27 +112,27 @@ fn count_first(
             place: numbers,
         };
     }
-    write_out(words, starts, table, request, marks, sentence, derivation)
+    write_out(words, places, table, request, marks, sentence, derivation)
 }
 
 // The sentence, the derivation and the marks, for which there is room.
 fn write_out(
     words: &[u16],
-    starts: &[u16; 256],
+    places: &[u16; 256],
     table: &[u16],
     request: Request,
     marks: &mut [u8],
     sentence: &mut [u16],
     derivation: &mut [u16],
 ) -> NextAnswer
-    requires { ⌜ Requested (now words) (now starts) (now table) (now marks) request ×
-        TreeFits (now words) (now starts) (now table) (request .n) (request .start) (request .target)
+    requires { ⌜ Requested (now words) (now places) (now table) (now marks) request ×
+        TreeFits (now words) (now places) (now table) (request .n) (request .start) (request .target)
         (now sentence) (now derivation) ⌝ }
     ensures { λ r. ⌜ NextPromise (now (words .entry)) (now (table .entry))
         (record { marks = now (marks .entry); tokens = now (sentence .entry); rules = now (derivation .entry) }) r
         (record { marks = now (marks .exit); tokens = now (sentence .exit); rules = now (derivation .exit) }) ⌝ }
 {
-    let listed = list_tree(words, starts, table, request, sentence, derivation);
+    let listed = list_tree(words, places, table, request, sentence, derivation);
     let tokens = listed.tokens;
     let numbers = listed.rules;
     mark_rules(derivation, numbers, marks);

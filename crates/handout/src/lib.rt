@@ -45,7 +45,7 @@ pub fn next(
         },
         TableTest::Its { rules } => handed::with_table(
             words,
-            &testing.starts,
+            &testing.places,
             rules,
             table,
             marks,

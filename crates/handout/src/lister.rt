@@ -18,11 +18,11 @@ pub struct Lengths {
 }
 
 // The symbols of the rule of a number.
-pub fn right_of<'a>(words: &'a [u16], starts: &[u16; 256], rule: u16) -> &'a [u16]
-    requires { ⌜ Stands (now words) (now starts) rule ⌝ }
-    ensures { λ r. ⌜ now r ≡ rightOf (now (words .entry)) (now (starts .entry)) rule ⌝ }
+pub fn right_of<'a>(words: &'a [u16], places: &[u16; 256], rule: u16) -> &'a [u16]
+    requires { ⌜ Stands (now words) (now places) rule ⌝ }
+    ensures { λ r. ⌜ now r ≡ rightOf (now (words .entry)) (now (places .entry)) rule ⌝ }
 {
-    let at = wide(starts[wide(rule)]);
+    let at = wide(places[wide(rule)]);
     let first = at + 2;
     let end = first + wide(words[at + 1]);
     &words[first..end]
@@ -31,7 +31,7 @@ pub fn right_of<'a>(words: &'a [u16], starts: &[u16; 256], rule: u16) -> &'a [u1
 // Lists the symbol s: a terminal as itself, a nonterminal as its chosen rule.
 pub fn list_symbol(
     words: &[u16],
-    starts: &[u16; 256],
+    places: &[u16; 256],
     table: &[u16],
     n: usize,
     s: u16,
@@ -39,8 +39,8 @@ pub fn list_symbol(
     sentence: &mut [u16],
     derivation: &mut [u16],
 ) -> usize
-    requires { ⌜ SymbolReady (now words) (now starts) (now table) n s (lengths past) ⌝ }
-    ensures { λ r. ⌜ SymbolWritten (now (words .entry)) (now (starts .entry)) (now (table .entry)) n s
+    requires { ⌜ SymbolReady (now words) (now places) (now table) n s (lengths past) ⌝ }
+    ensures { λ r. ⌜ SymbolWritten (now (words .entry)) (now (places .entry)) (now (table .entry)) n s
         (now (sentence .entry)) (now (sentence .exit)) (now (derivation .entry)) (now (derivation .exit))
         (lengths past) (lengths r) ⌝ }
 {
@@ -50,14 +50,14 @@ pub fn list_symbol(
         return past + TOKEN;
     }
     let chosen = table[5 * a + 1];
-    list_rule(words, starts, table, n, chosen, past, sentence, derivation)
+    list_rule(words, places, table, n, chosen, past, sentence, derivation)
 }
 
 // Lists the rule of a number: the number, then its symbols. They are read from the words by index: a part of the words would be one
 // thing more to keep over each call.
 pub fn list_rule(
     words: &[u16],
-    starts: &[u16; 256],
+    places: &[u16; 256],
     table: &[u16],
     n: usize,
     rule: u16,
@@ -65,19 +65,19 @@ pub fn list_rule(
     sentence: &mut [u16],
     derivation: &mut [u16],
 ) -> usize
-    requires { ⌜ RuleReady (now words) (now starts) (now table) n rule (lengths past) ⌝ }
-    ensures { λ r. ⌜ RuleWritten (now (words .entry)) (now (starts .entry)) (now (table .entry)) n rule
+    requires { ⌜ RuleReady (now words) (now places) (now table) n rule (lengths past) ⌝ }
+    ensures { λ r. ⌜ RuleWritten (now (words .entry)) (now (places .entry)) (now (table .entry)) n rule
         (now (sentence .entry)) (now (sentence .exit)) (now (derivation .entry)) (now (derivation .exit))
         (lengths past) (lengths r) ⌝ }
 {
     put(derivation, past % TOKEN, rule);
-    let at = wide(starts[wide(rule)]);
+    let at = wide(places[wide(rule)]);
     let first = at + 2;
     let end = first + wide(words[at + 1]);
     let mut so = past + 1;
     let mut i = first;
     while i < end {
-        so = list_symbol(words, starts, table, n, words[i], so, sentence, derivation);
+        so = list_symbol(words, places, table, n, words[i], so, sentence, derivation);
         i += 1;
     }
     so
@@ -86,7 +86,7 @@ pub fn list_rule(
 // Lists some symbols in order.
 pub fn list_symbols(
     words: &[u16],
-    starts: &[u16; 256],
+    places: &[u16; 256],
     table: &[u16],
     n: usize,
     symbols: &[u16],
@@ -94,8 +94,8 @@ pub fn list_symbols(
     sentence: &mut [u16],
     derivation: &mut [u16],
 ) -> usize
-    requires { ⌜ SymbolsReady (now words) (now starts) (now table) n (now symbols) (lengths past) ⌝ }
-    ensures { λ r. ⌜ SymbolsWritten (now (words .entry)) (now (starts .entry)) (now (table .entry)) n (now (symbols .entry))
+    requires { ⌜ SymbolsReady (now words) (now places) (now table) n (now symbols) (lengths past) ⌝ }
+    ensures { λ r. ⌜ SymbolsWritten (now (words .entry)) (now (places .entry)) (now (table .entry)) n (now (symbols .entry))
         (now (sentence .entry)) (now (sentence .exit)) (now (derivation .entry)) (now (derivation .exit))
         (lengths past) (lengths r) ⌝ }
 {
@@ -104,7 +104,7 @@ pub fn list_symbols(
     while i < symbols.len() {
         so = list_symbol(
             words,
-            starts,
+            places,
             table,
             n,
             symbols[i],

@@ -12,7 +12,7 @@ use crate::lister::right_of;
 use cells::narrow;
 use cells::put;
 use cells::wide;
-use grammar::rules;
+use layout::rules;
 
 // The most nonterminals there are, and so the most on a way up.
 const MOST_NONTERMINALS: usize = 128;
@@ -28,21 +28,21 @@ pub struct Request {
 // Notes the nonterminals from a up to the start, which is not noted, by context choices; how many they are.
 fn climb(
     words: &[u16],
-    starts: &[u16; 256],
+    places: &[u16; 256],
     table: &[u16],
     start: usize,
     from: usize,
     path: &mut [u16],
 ) -> usize
-    requires { ⌜ ClimbReady (now words) (now starts) (now table) start from (now path) ⌝ }
-    ensures { λ r. ⌜ PathOf (now (words .entry)) (now (starts .entry)) (now (table .entry)) start from (now (path .exit)) r ⌝ }
+    requires { ⌜ ClimbReady (now words) (now places) (now table) start from (now path) ⌝ }
+    ensures { λ r. ⌜ PathOf (now (words .entry)) (now (places .entry)) (now (table .entry)) start from (now (path .exit)) r ⌝ }
 {
     let mut a = from;
     let mut steps = 0;
     while a != start {
         path[steps] = narrow(a);
         steps += 1;
-        a = wide(words[rules::index(starts, wide(table[5 * a + 3]))]);
+        a = wide(words[rules::index(places, wide(table[5 * a + 3]))]);
     }
     steps
 }
@@ -50,7 +50,7 @@ fn climb(
 // Lists the number of the context rule of a, and the symbols before the place.
 fn list_front(
     words: &[u16],
-    starts: &[u16; 256],
+    places: &[u16; 256],
     table: &[u16],
     n: usize,
     a: usize,
@@ -58,18 +58,18 @@ fn list_front(
     sentence: &mut [u16],
     derivation: &mut [u16],
 ) -> usize
-    requires { ⌜ FrontReady (now words) (now starts) (now table) n a (lengths past) ⌝ }
-    ensures { λ r. ⌜ FrontWritten (now (words .entry)) (now (starts .entry)) (now (table .entry)) n a
+    requires { ⌜ FrontReady (now words) (now places) (now table) n a (lengths past) ⌝ }
+    ensures { λ r. ⌜ FrontWritten (now (words .entry)) (now (places .entry)) (now (table .entry)) n a
         (now (sentence .entry)) (now (sentence .exit)) (now (derivation .entry)) (now (derivation .exit))
         (lengths past) (lengths r) ⌝ }
 {
     let rule = table[5 * a + 3];
     let place = wide(table[5 * a + 4]);
     put(derivation, past % TOKEN, rule);
-    let symbols = right_of(words, starts, rule);
+    let symbols = right_of(words, places, rule);
     list_symbols(
         words,
-        starts,
+        places,
         table,
         n,
         &symbols[..place],
@@ -82,7 +82,7 @@ fn list_front(
 // Lists what lies before the lowest nonterminal of the path: context by context from the start down.
 fn list_before(
     words: &[u16],
-    starts: &[u16; 256],
+    places: &[u16; 256],
     table: &[u16],
     n: usize,
     path: &[u16],
@@ -90,8 +90,8 @@ fn list_before(
     sentence: &mut [u16],
     derivation: &mut [u16],
 ) -> usize
-    requires { ⌜ WayReady before (now words) (now starts) (now table) n (now path) steps none-so-far ⌝ }
-    ensures { λ r. ⌜ WayWritten before (now (words .entry)) (now (starts .entry)) (now (table .entry)) n (now (path .entry)) steps
+    requires { ⌜ WayReady before (now words) (now places) (now table) n (now path) steps none-so-far ⌝ }
+    ensures { λ r. ⌜ WayWritten before (now (words .entry)) (now (places .entry)) (now (table .entry)) n (now (path .entry)) steps
         (now (sentence .entry)) (now (sentence .exit)) (now (derivation .entry)) (now (derivation .exit)) none-so-far
         (lengths r) ⌝ }
 {
@@ -101,7 +101,7 @@ fn list_before(
         i -= 1;
         so = list_front(
             words,
-            starts,
+            places,
             table,
             n,
             wide(path[i]),
@@ -116,7 +116,7 @@ fn list_before(
 // Lists the symbols after the place in the context rule of a.
 fn list_back(
     words: &[u16],
-    starts: &[u16; 256],
+    places: &[u16; 256],
     table: &[u16],
     n: usize,
     a: usize,
@@ -124,17 +124,17 @@ fn list_back(
     sentence: &mut [u16],
     derivation: &mut [u16],
 ) -> usize
-    requires { ⌜ BackReady (now words) (now starts) (now table) n a (lengths past) ⌝ }
-    ensures { λ r. ⌜ SymbolsWritten (now (words .entry)) (now (starts .entry)) (now (table .entry)) n
-        (backOf (now (words .entry)) (now (starts .entry)) (now (table .entry)) a) (now (sentence .entry)) (now (sentence .exit))
+    requires { ⌜ BackReady (now words) (now places) (now table) n a (lengths past) ⌝ }
+    ensures { λ r. ⌜ SymbolsWritten (now (words .entry)) (now (places .entry)) (now (table .entry)) n
+        (backOf (now (words .entry)) (now (places .entry)) (now (table .entry)) a) (now (sentence .entry)) (now (sentence .exit))
         (now (derivation .entry)) (now (derivation .exit))
         (lengths past) (lengths r) ⌝ }
 {
-    let symbols = right_of(words, starts, table[5 * a + 3]);
+    let symbols = right_of(words, places, table[5 * a + 3]);
     let next = wide(table[5 * a + 4]) + 1;
     list_symbols(
         words,
-        starts,
+        places,
         table,
         n,
         &symbols[next..],
@@ -147,7 +147,7 @@ fn list_back(
 // Lists what lies after the lowest nonterminal of the path: context by context up to the start.
 fn list_after(
     words: &[u16],
-    starts: &[u16; 256],
+    places: &[u16; 256],
     table: &[u16],
     n: usize,
     path: &[u16],
@@ -156,8 +156,8 @@ fn list_after(
     sentence: &mut [u16],
     derivation: &mut [u16],
 ) -> usize
-    requires { ⌜ WayReady after (now words) (now starts) (now table) n (now path) steps (lengths past) ⌝ }
-    ensures { λ r. ⌜ WayWritten after (now (words .entry)) (now (starts .entry)) (now (table .entry)) n (now (path .entry)) steps
+    requires { ⌜ WayReady after (now words) (now places) (now table) n (now path) steps (lengths past) ⌝ }
+    ensures { λ r. ⌜ WayWritten after (now (words .entry)) (now (places .entry)) (now (table .entry)) n (now (path .entry)) steps
         (now (sentence .entry)) (now (sentence .exit)) (now (derivation .entry)) (now (derivation .exit))
         (lengths past) (lengths r) ⌝ }
 {
@@ -166,7 +166,7 @@ fn list_after(
     while i < steps {
         so = list_back(
             words,
-            starts,
+            places,
             table,
             n,
             wide(path[i]),
@@ -182,26 +182,26 @@ fn list_after(
 // Lists the tree of the target: what lies before its left side, the rule, and what lies after.
 pub fn list_tree(
     words: &[u16],
-    starts: &[u16; 256],
+    places: &[u16; 256],
     table: &[u16],
     request: Request,
     sentence: &mut [u16],
     derivation: &mut [u16],
 ) -> Lengths
-    requires { ⌜ TreeReady (now words) (now starts) (now table) (request .n) (request .start) (request .target) ⌝ }
-    ensures { λ r. ⌜ TreeWritten (now (words .entry)) (now (starts .entry)) (now (table .entry))
+    requires { ⌜ TreeReady (now words) (now places) (now table) (request .n) (request .start) (request .target) ⌝ }
+    ensures { λ r. ⌜ TreeWritten (now (words .entry)) (now (places .entry)) (now (table .entry))
         (request .n) (request .start) (request .target)
         (now (sentence .entry)) (now (sentence .exit)) (now (derivation .entry)) (now (derivation .exit)) r ⌝ }
 {
     let mut path = [0u16; MOST_NONTERMINALS];
     let n = request.n;
     let target = request.target;
-    let left = wide(words[rules::index(starts, target)]);
-    let steps = climb(words, starts, table, request.start, left, &mut path);
-    let above = list_before(words, starts, table, n, &path, steps, sentence, derivation);
+    let left = wide(words[rules::index(places, target)]);
+    let steps = climb(words, places, table, request.start, left, &mut path);
+    let above = list_before(words, places, table, n, &path, steps, sentence, derivation);
     let under = list_rule(
         words,
-        starts,
+        places,
         table,
         n,
         narrow(target),
@@ -211,7 +211,7 @@ pub fn list_tree(
     );
     let all = list_after(
         words,
-        starts,
+        places,
         table,
         n,
         &path,

@@ -1,12 +1,12 @@
 // The calls. Assumes nothing.
-use grammar::layout::LayoutAnswer;
-use grammar::walk::FIRST_RULE;
-use grammar::walk::RuleSpan;
-use grammar::walk::Step;
-use grammar::walk::rule_from;
+use layout::judge::LayoutAnswer;
+use layout::walk::FIRST_RULE;
+use layout::walk::RuleSpan;
+use layout::walk::Step;
+use layout::walk::rule_from;
 
 pub fn judge(words: &[u16]) {
-    match grammar::layout::judge(words) {
+    match layout::judge::judge(words) {
         LayoutAnswer::Grammar {
             nonterminals,
             terminals,

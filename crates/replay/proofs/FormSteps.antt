@@ -10,7 +10,7 @@ use native.Mathlib.Omega.{arith}
 use lib.ListN.{length, getD, set}
 use lib.Seq.{sets, set-out, getD-set-same, getD-set-other, lt-length-set}
 use Rattle.answers.proofs.Stores.{sets-append}
-use Rattle.grammar.specs.Walk.{countAt}
+use Rattle.layout.specs.Walk.{countAt}
 use Rattle.replay.specs.Forms.{side, atOf, leftOf, pushed, waiting, formOf, waitingAbove, behind}
 use Rattle.replay.specs.Forms.{TokensEnd, Passed, Openable, Opened}
 use Rattle.replay.specs.declared.forms.Open.{Open}

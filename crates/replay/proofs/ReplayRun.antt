@@ -13,10 +13,11 @@ use Rattle.grammar.specs.Words.{Grammar, layout, reads}
 use Rattle.grammar.specs.Derivation.{Start}
 use Rattle.grammar.proofs.LayoutExact.{layout-exact, in-bounds}
 use Rattle.grammar.proofs.WordsFew.{words-few}
-use Rattle.grammar.proofs.RulePlaces as places
+use Rattle.layout.proofs.RulePlaces as places
 use Rattle.grammar.specs.Replaying.{stopped, replayed, replay}
 use Rattle.grammar.proofs.Replay.{replay-exact, replay-stops}
-use Rattle.grammar.proofs.RulesInView.{View, viewed-rule}
+use Rattle.layout.specs.View.{View}
+use Rattle.layout.proofs.RulesInView.{viewed-rule}
 use Rattle.replay.specs.Replay.{Replay, row-11, row-3, row-done}
 use Rattle.replay.specs.Forms.{side, waiting, formOf, Passed}
 use Rattle.replay.specs.ReplaySteps.{rest, allFront, Ground, Kept, Onward, Bounded, Turned, Whole, Ended, Ran}
@@ -44,7 +45,7 @@ start-form : (ws stack : List ℕ) (g : Grammar) → layout ws ≡ reads g → f
 unfolding side waiting
 start-form ws stack g e = rw (layout-exact ws g .0 e .1)
 
-pub held-start : {ws starts : List ℕ} {n rules : ℕ} (g : Grammar) → View ws starts n rules g → (list stack before : List ℕ) →
+pub held-start : {ws places : List ℕ} {n rules : ℕ} (g : Grammar) → View ws places n rules g → (list stack before : List ℕ) →
     Held g ws list stack outset before before
 unfolding replay
 held-start {ws} g view list stack before = record {
@@ -77,8 +78,8 @@ onward {ws} {list} {stack} {stack′} {o} m e z =
 
 module _ {g : Grammar} {ws list stack : List ℕ} {o : Open} {before sentence : List ℕ}
     (held : Held g ws list stack o before sentence) where
-  pub held-passed : {starts : List ℕ} {n rules : ℕ} {o′ : Open} {sentence′ : List ℕ} → Kept ws list stack o →
-      View ws starts n rules g → Passed ws n o sentence o′ sentence′ → Held g ws list stack o′ before sentence′
+  pub held-passed : {places : List ℕ} {n rules : ℕ} {o′ : Open} {sentence′ : List ℕ} → Kept ws list stack o →
+      View ws places n rules g → Passed ws n o sentence o′ sentence′ → Held g ws list stack o′ before sentence′
   held-passed kept view p = record {
     passed = held .passed ++ p .ts;
     count = omega (arith, held .count, p .more-tokens, length-append (held .passed) (p .ts));
@@ -114,9 +115,9 @@ module _ {g : Grammar} {ws list stack : List ℕ} {o : Open} {before sentence : 
     held-stop {p} e = held .replays ∙ ap (allFront (held .passed)) (by e) ∙ all-front-stopped (held .passed) p
 
 -- the bounds that a grammar gives
-pub ground : {ws starts list : List ℕ} {n rules : ℕ} {g : Grammar} → View ws starts n rules g → length list ≤ 4096 →
-    Ground ws starts list rules
-ground {ws} {starts} {list} {n} {rules} {g} view few = record {
+pub ground : {ws places list : List ℕ} {n rules : ℕ} {g : Grammar} → View ws places n rules g → length list ≤ 4096 →
+    Ground ws places list rules
+ground {ws} {places} {list} {n} {rules} {g} view few = record {
   few-words = omega (arith, words-few ws g (view .is));
   few-rules = omega (arith, view .all-rules, in-bounds ws (view .is) .at-most-256);
   few-numbers = few;
@@ -126,7 +127,7 @@ ground {ws} {starts} {list} {n} {rules} {g} view few = record {
       omega (arith, view .begin k (omega (arith, view .all-rules)), counted view r, within);
 }
 
-pub three-words : {ws starts : List ℕ} {n rules : ℕ} {g : Grammar} → View ws starts n rules g → 3 ≤ length ws
+pub three-words : {ws places : List ℕ} {n rules : ℕ} {g : Grammar} → View ws places n rules g → 3 ≤ length ws
 three-words {ws} {g = g} view = rw (layout-exact ws g .0 (view .is) .1) (omega arith)
 
 -- tokens stored from the front on, as far as they go
@@ -135,7 +136,7 @@ unfolding over
 stored-over t before h = let e : 0 + length t ≡ length t = omega arith in rw e at (sets-eq t before 0 (omega arith))
 
 -- the rows of a list that is not too long
-module _ {ws starts list : List ℕ} {n rules : ℕ} {g : Grammar} (view : View ws starts n rules g) (few : length list ≤ 4096) where
+module _ {ws places list : List ℕ} {n rules : ℕ} {g : Grammar} (view : View ws places n rules g) (few : length list ≤ 4096) where
   pub answers-11 : {aside before after : List ℕ} {r : Outcome} {p : ℕ} {a : ReplayAnswer} → Ran g list aside r after →
       r ≡ Stopped p → a ≡ Refused 11 p → Replay ws list before a before
   answers-11 {aside} {before} {after} {r} {p} z e q =

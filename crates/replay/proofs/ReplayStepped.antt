@@ -6,11 +6,12 @@ use Prim.Native.Nat.{ℕ, _+_, _-_, _≤_, _<_}
 use native.Mathlib.Omega.{arith}
 use lib.ListN.{length, getD, drop, length-append}
 use Rattle.grammar.specs.Words.{Grammar, RuleAt, placeOf}
-use Rattle.grammar.specs.Walk.{countAt}
-use Rattle.grammar.proofs.RulePlaces as places
+use Rattle.layout.specs.Walk.{countAt}
+use Rattle.layout.proofs.RulePlaces as places
 use Rattle.grammar.proofs.RuleNumbers.{rule-number}
 use Rattle.grammar.specs.Replaying.{derived, stopped, replayed}
-use Rattle.grammar.proofs.RulesInView.{View, viewed-rule, viewed-left}
+use Rattle.layout.specs.View.{View}
+use Rattle.layout.proofs.RulesInView.{viewed-rule, viewed-left}
 use Rattle.replay.specs.Forms.{side, formOf, waitingAbove, behind, Passed, Openable, Opened}
 use Rattle.replay.specs.ReplaySteps.{rest, allFront, toDo, Ground, Kept, Onward}
 use Rattle.replay.specs.declared.forms.Open.{Open}
@@ -18,15 +19,15 @@ use Rattle.replay.proofs.FormSteps.{side-is, side-length, form-first, f
 use Rattle.replay.proofs.ReplayMoves as moves
 
 -- the right side of a rule stands after its count
-module _ {ws starts : List ℕ} {n rules : ℕ} {g : Grammar} (view : View ws starts n rules g) {k A : ℕ} {w : List ℕ}
+module _ {ws places : List ℕ} {n rules : ℕ} {g : Grammar} (view : View ws places n rules g) {k A : ℕ} {w : List ℕ}
     (r : RuleAt g k A w) where
-  pub counted : countAt ws (getD starts k 0) ≡ length w
+  pub counted : countAt ws (getD places k 0) ≡ length w
   counted =
       ap (λ (p : ℕ). countAt ws p) (view .begin k (rule-number r)) ∙ places.count-stands ws g (view .is) k A w (r .stands)
 
-  right-side : side ws (getD starts k 0 + 2) (countAt ws (getD starts k 0)) ≡ w
+  right-side : side ws (getD places k 0 + 2) (countAt ws (getD places k 0)) ≡ w
   right-side =
-      ap (λ (m : ℕ). side ws (getD starts k 0 + 2) m) counted ∙
+      ap (λ (m : ℕ). side ws (getD places k 0 + 2) m) counted ∙
       ap (λ (p : ℕ). side ws (p + 2) (length w)) (view .begin k (rule-number r)) ∙
       side-is ws w (placeOf g k + 2) (places.symbol-stands ws g (view .is) k A w (r .stands))
 
@@ -69,7 +70,7 @@ module _ {ws list stack : List ℕ} {o : Open} (kept : Kept ws list stack o) whe
 
   module _ (some : 0 < o .left) where
     -- a nonterminal, and no number or none that applies
-    module _ {starts : List ℕ} {n rules : ℕ} {g : Grammar} (view : View ws starts n rules g) (below : first < n) where
+    module _ {places : List ℕ} {n rules : ℕ} {g : Grammar} (view : View ws places n rules g) (below : first < n) where
       nonterminal : first < g .N
       nonterminal = omega (arith, view .nonterminals)
 
@@ -87,14 +88,14 @@ module _ {ws list stack : List ℕ} {o : Open} (kept : Kept ws list stack o) whe
         numbered : {A : ℕ} {w : List ℕ} → RuleAt g k A w → RuleAt g (getD list (o .next) 0) A w
         numbered {A} {w} r = subst (λ (j : ℕ). RuleAt g j A w) is r
 
-        pub other-rule : k < rules → ¬ (getD ws (getD starts k 0) 0 ≡ first) → rest g ws list stack o ≡ stopped (o .next)
+        pub other-rule : k < rules → ¬ (getD ws (getD places k 0) 0 ≡ first) → rest g ws list stack o ≡ stopped (o .next)
         other-rule l ne =
             let (A, w, r) = viewed-rule view k l in
             from g (form-first ws stack o some) ∙
             moves.stops-other g list (o .next) first A _ w more nonterminal (numbered r) (λ e. ne (viewed-left view r ∙ e))
 
-        pub opens : {stack′ : List ℕ} {o′ : Open} → k < rules → getD ws (getD starts k 0) 0 ≡ first →
-            Opened ws (getD starts k 0) stack o stack′ o′ →
+        pub opens : {stack′ : List ℕ} {o′ : Open} → k < rules → getD ws (getD places k 0) 0 ≡ first →
+            Opened ws (getD places k 0) stack o stack′ o′ →
             (o′ .tokens ≡ o .tokens) × (rest g ws list stack o ≡ rest g ws list stack′ o′)
         opens {stack′} {o′} l e opened =
             let (A, w, r) = viewed-rule view k l in
@@ -108,8 +109,8 @@ module _ {ws list stack : List ℕ} {o : Open} (kept : Kept ws list stack o) whe
                   ap (λ (m : ℕ). replayed g (drop m list) m (formOf ws stack′ o′)) (sym (opened .one-more)),
             )
 
-    pub openable : {starts : List ℕ} {rules : ℕ} → Ground ws starts list rules → (k : ℕ) → k < rules → o .next < length list →
-        Openable ws (getD starts k 0) stack o
+    pub openable : {places : List ℕ} {rules : ℕ} → Ground ws places list rules → (k : ℕ) → k < rules → o .next < length list →
+        Openable ws (getD places k 0) stack o
     openable ground k l h = record {
       some = some;
       few-words = ground .few-words;
@@ -120,11 +121,11 @@ module _ {ws list stack : List ℕ} {o : Open} (kept : Kept ws list stack o) whe
       whole = ground .whole k l;
     }
 
-    pub opens-bounded : {starts : List ℕ} {rules : ℕ} → Ground ws starts list rules → (k : ℕ) → k < rules →
-        o .next < length list → {stack′ : List ℕ} {o′ : Open} → Opened ws (getD starts k 0) stack o stack′ o′ →
+    pub opens-bounded : {places : List ℕ} {rules : ℕ} → Ground ws places list rules → (k : ℕ) → k < rules →
+        o .next < length list → {stack′ : List ℕ} {o′ : Open} → Opened ws (getD places k 0) stack o stack′ o′ →
         length stack′ ≡ length stack → Onward ws list stack o stack′ o′
-    opens-bounded {starts} ground k l h opened same-length =
-        let at = getD starts k 0 in
+    opens-bounded {places} ground k l h opened same-length =
+        let at = getD places k 0 in
         let size = ap length (form-first ws stack o some) in
         let inside = ground .whole k l in
         let few-words = ground .few-words in

@@ -6,7 +6,7 @@ use mathlib.Core.Path.{_≡_}
 use mathlib.Core.List.{List, [], _∷_, _++_}
 use lib.ListN.{length, getD, set}
 use lib.Seq.{sets}
-use Rattle.grammar.specs.Walk.{countAt}
+use Rattle.layout.specs.Walk.{countAt}
 use Rattle.replay.specs.declared.forms.Open.{Open}
 
 -- so many words from an index on

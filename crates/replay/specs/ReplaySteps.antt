@@ -7,7 +7,7 @@ use mathlib.Core.List.{List, [], _∷_}
 use lib.ListN.{length, getD, drop}
 use lib.Seq.{sets}
 use Rattle.grammar.specs.Words.{Grammar}
-use Rattle.grammar.specs.Walk.{countAt}
+use Rattle.layout.specs.Walk.{countAt}
 use Rattle.grammar.specs.Replaying.{Replayed, derived, stopped, replayed, replay}
 use Rattle.replay.specs.Forms.{atOf, leftOf, formOf}
 use Rattle.replay.specs.declared.forms.Open.{Open}
@@ -30,12 +30,12 @@ abbrev pub allFront : List ℕ → Replayed → Replayed
 allFront [] z = z
 allFront (s ∷ t) z = front s (allFront t z)
 
--- the bounds of the words, the starts and the list
-pub record Ground (ws starts list : List ℕ) (rules : ℕ) : Type 0 where
+-- the bounds of the words, the places and the list
+pub record Ground (ws places list : List ℕ) (rules : ℕ) : Type 0 where
   pub few-words : length ws ≤ 65535
   pub few-rules : rules ≤ 256
   pub few-numbers : length list ≤ 4096
-  pub whole : (k : ℕ) → k < rules → getD starts k 0 + 2 + countAt ws (getD starts k 0) ≤ length ws
+  pub whole : (k : ℕ) → k < rules → getD places k 0 + 2 + countAt ws (getD places k 0) ≤ length ws
 
 -- the bounds of what is open
 pub record Kept (ws list stack : List ℕ) (o : Open) : Type 0 where

@@ -3,14 +3,14 @@
 ghost use Prim.Native.Nat.{ℕ, _*_, _≤_, _<_};
 ghost use lib.ListN.{length, getD};
 ghost use Rattle.grammar.specs.Words.{Grammar};
-ghost use Rattle.grammar.proofs.RulesInView.{View};
+ghost use Rattle.layout.specs.View.{View};
 ghost use Rattle.replay.specs.ReplaySteps.{Ground, Kept, Bounded, Turned, Ran};
 use crate::forms::Open;
 use crate::forms::above;
 use crate::forms::open_rule;
 use crate::forms::pass_tokens;
 use cells::wide;
-use grammar::rules;
+use layout::rules;
 
 // What a step leads to: more is open; nothing is, and all numbers are used; or the list stops at a place.
 pub enum Move {
@@ -28,17 +28,17 @@ pub enum Outcome {
 // Opens the next symbol, a nonterminal, by the next number; what is left of its right side waits.
 fn expand(
     words: &[u16],
-    starts: &[u16; 256],
+    places: &[u16; 256],
     rules: usize,
     list: &[u16],
     form: Open,
     stack: &mut [u16],
 ) -> Move
-    requires { ⌜ (0 < form .left) × (Ground (now words) (now starts) (now list) rules ×
+    requires { ⌜ (0 < form .left) × (Ground (now words) (now places) (now list) rules ×
         Kept (now words) (now list) (now stack) form) ⌝ }
     ensures { λ r. ⌜ Bounded (now (words .entry)) (now (list .entry)) (now (stack .entry)) form r
         (now (stack .exit)) ⌝ }
-    ensures { λ r. ⌜ ((g : Grammar) (n : ℕ) → View (now (words .entry)) (now (starts .entry)) n rules g →
+    ensures { λ r. ⌜ ((g : Grammar) (n : ℕ) → View (now (words .entry)) (now (places .entry)) n rules g →
         getD (now (words .entry)) (form .at) 0 < n →
         Turned g (now (words .entry)) (now (list .entry)) (now (stack .entry)) form r
         (now (stack .exit))) ⌝ }
@@ -51,7 +51,7 @@ fn expand(
     if rules <= number {
         return Move::Stop { place: next };
     }
-    let at = rules::index(starts, number);
+    let at = rules::index(places, number);
     let open = form.at;
     if words[at] != words[open] {
         return Move::Stop { place: next };
@@ -63,22 +63,22 @@ fn expand(
 // are to be used.
 fn step(
     words: &[u16],
-    starts: &[u16; 256],
+    places: &[u16; 256],
     rules: usize,
     list: &[u16],
     form: Open,
     stack: &mut [u16],
 ) -> Move
-    requires { ⌜ Ground (now words) (now starts) (now list) rules × Kept (now words) (now list) (now stack) form ⌝ }
+    requires { ⌜ Ground (now words) (now places) (now list) rules × Kept (now words) (now list) (now stack) form ⌝ }
     ensures { λ r. ⌜ Bounded (now (words .entry)) (now (list .entry)) (now (stack .entry)) form r
         (now (stack .exit)) ⌝ }
-    ensures { λ r. ⌜ ((g : Grammar) (n : ℕ) → View (now (words .entry)) (now (starts .entry)) n rules g →
+    ensures { λ r. ⌜ ((g : Grammar) (n : ℕ) → View (now (words .entry)) (now (places .entry)) n rules g →
         (0 < form .left → getD (now (words .entry)) (form .at) 0 < n) →
         Turned g (now (words .entry)) (now (list .entry)) (now (stack .entry)) form r
         (now (stack .exit))) ⌝ }
 {
     if 0 < form.left {
-        return expand(words, starts, rules, list, form, stack);
+        return expand(words, places, rules, list, form, stack);
     }
     if 0 < form.depth {
         return Move::On(above(form, stack));
@@ -94,16 +94,16 @@ fn step(
 // Steps from the start, which is the word 2, to the end; the tokens are stored as far as there is room.
 pub fn run(
     words: &[u16],
-    starts: &[u16; 256],
+    places: &[u16; 256],
     n: usize,
     rules: usize,
     list: &[u16],
     stack: &mut [u16],
     sentence: &mut [u16],
 ) -> Outcome
-    requires { ⌜ Ground (now words) (now starts) (now list) rules × ((3 ≤ length (now words)) ×
+    requires { ⌜ Ground (now words) (now places) (now list) rules × ((3 ≤ length (now words)) ×
         (2 * length (now list) ≤ length (now stack))) ⌝ }
-    ensures { λ r. ⌜ ((g : Grammar) → View (now (words .entry)) (now (starts .entry)) n rules g →
+    ensures { λ r. ⌜ ((g : Grammar) → View (now (words .entry)) (now (places .entry)) n rules g →
         Ran g (now (list .entry)) (now (sentence .entry)) r (now (sentence .exit))) ⌝ }
 {
     let mut form = Open {
@@ -115,7 +115,7 @@ pub fn run(
     };
     loop {
         form = pass_tokens(words, n, form, sentence);
-        match step(words, starts, rules, list, form, stack) {
+        match step(words, places, rules, list, form, stack) {
             Move::On(more) => {
                 form = more;
             }

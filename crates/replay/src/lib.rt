@@ -4,8 +4,8 @@ mod forms;
 mod rows;
 
 ghost use Rattle.replay.specs.Replay.{Replay};
-use grammar::layout;
-use grammar::layout::LayoutAnswer;
+use layout::judge;
+use layout::judge::LayoutAnswer;
 
 // What `replay` answers: the number of tokens written, or the refusal's number and place.
 pub enum ReplayAnswer {
@@ -18,7 +18,7 @@ pub enum ReplayAnswer {
 pub fn replay(words: &[u16], list: &[u16], sentence: &mut [u16]) -> ReplayAnswer
     ensures { λ r. ⌜ Replay (now (words .entry)) (now (list .entry)) (now (sentence .entry)) r (now (sentence .exit)) ⌝ }
 {
-    let reading = layout::read(words);
+    let reading = judge::read(words);
     let answer = reading.answer;
     match answer {
         LayoutAnswer::Fault { place } => ReplayAnswer::Refused {
@@ -30,6 +30,6 @@ pub fn replay(words: &[u16], list: &[u16], sentence: &mut [u16]) -> ReplayAnswer
             terminals: _,
             start: _,
             rules,
-        } => rows::of_grammar(words, &reading.starts, nonterminals, rules, list, sentence),
+        } => rows::of_grammar(words, &reading.places, nonterminals, rules, list, sentence),
     }
 }

@@ -5,7 +5,7 @@ ghost use Prim.Native.Nat.{_*_, _≤_};
 ghost use lib.ListN.{length, take};
 ghost use Rattle.answers.specs.Buffers.{over};
 ghost use Rattle.grammar.specs.Words.{Grammar};
-ghost use Rattle.grammar.proofs.RulesInView.{View};
+ghost use Rattle.layout.specs.View.{View};
 ghost use Rattle.replay.specs.Replay.{Replay};
 use crate::ReplayAnswer;
 use crate::derivation::Outcome;
@@ -27,13 +27,13 @@ const SOME_NUMBERS: usize = 256;
 // 12, and what follows.
 pub fn of_grammar(
     words: &[u16],
-    starts: &[u16; 256],
+    places: &[u16; 256],
     n: usize,
     rules: usize,
     list: &[u16],
     sentence: &mut [u16],
 ) -> ReplayAnswer
-    requires { ⌜ ((g : Grammar) × View (now words) (now starts) n rules g) ⌝ }
+    requires { ⌜ ((g : Grammar) × View (now words) (now places) n rules g) ⌝ }
     ensures { λ r. ⌜ Replay (now (words .entry)) (now (list .entry)) (now (sentence .entry)) r (now (sentence .exit)) ⌝ }
 {
     if MOST_NUMBERS < list.len() {
@@ -43,31 +43,31 @@ pub fn of_grammar(
         };
     }
     if list.len() <= FEW_NUMBERS {
-        return of_few(words, starts, n, rules, list, sentence);
+        return of_few(words, places, n, rules, list, sentence);
     }
     if list.len() <= SOME_NUMBERS {
-        return of_some(words, starts, n, rules, list, sentence);
+        return of_some(words, places, n, rules, list, sentence);
     }
-    of_many(words, starts, n, rules, list, sentence)
+    of_many(words, places, n, rules, list, sentence)
 }
 
 // A short list, with little room to clear.
 fn of_few(
     words: &[u16],
-    starts: &[u16; 256],
+    places: &[u16; 256],
     n: usize,
     rules: usize,
     list: &[u16],
     sentence: &mut [u16],
 ) -> ReplayAnswer
-    requires { ⌜ ((g : Grammar) × View (now words) (now starts) n rules g) × (length (now list) ≤ 64) ⌝ }
+    requires { ⌜ ((g : Grammar) × View (now words) (now places) n rules g) × (length (now list) ≤ 64) ⌝ }
     ensures { λ r. ⌜ Replay (now (words .entry)) (now (list .entry)) (now (sentence .entry)) r (now (sentence .exit)) ⌝ }
 {
     let mut stack = [0u16; 2 * FEW_NUMBERS];
     let mut aside = [0u16; 64];
     of_list(
         words,
-        starts,
+        places,
         n,
         rules,
         list,
@@ -80,20 +80,20 @@ fn of_few(
 // A longer one, of which the sentence can be long.
 fn of_some(
     words: &[u16],
-    starts: &[u16; 256],
+    places: &[u16; 256],
     n: usize,
     rules: usize,
     list: &[u16],
     sentence: &mut [u16],
 ) -> ReplayAnswer
-    requires { ⌜ ((g : Grammar) × View (now words) (now starts) n rules g) × (length (now list) ≤ 256) ⌝ }
+    requires { ⌜ ((g : Grammar) × View (now words) (now places) n rules g) × (length (now list) ≤ 256) ⌝ }
     ensures { λ r. ⌜ Replay (now (words .entry)) (now (list .entry)) (now (sentence .entry)) r (now (sentence .exit)) ⌝ }
 {
     let mut stack = [0u16; 2 * SOME_NUMBERS];
     let mut aside = [0u16; MOST_NUMBERS];
     of_list(
         words,
-        starts,
+        places,
         n,
         rules,
         list,
@@ -106,20 +106,20 @@ fn of_some(
 // Any list.
 fn of_many(
     words: &[u16],
-    starts: &[u16; 256],
+    places: &[u16; 256],
     n: usize,
     rules: usize,
     list: &[u16],
     sentence: &mut [u16],
 ) -> ReplayAnswer
-    requires { ⌜ ((g : Grammar) × View (now words) (now starts) n rules g) × (length (now list) ≤ 4096) ⌝ }
+    requires { ⌜ ((g : Grammar) × View (now words) (now places) n rules g) × (length (now list) ≤ 4096) ⌝ }
     ensures { λ r. ⌜ Replay (now (words .entry)) (now (list .entry)) (now (sentence .entry)) r (now (sentence .exit)) ⌝ }
 {
     let mut stack = [0u16; 2 * MOST_NUMBERS];
     let mut aside = [0u16; MOST_NUMBERS];
     of_list(
         words,
-        starts,
+        places,
         n,
         rules,
         list,
@@ -133,7 +133,7 @@ fn of_many(
 // a second run.
 fn of_list(
     words: &[u16],
-    starts: &[u16; 256],
+    places: &[u16; 256],
     n: usize,
     rules: usize,
     list: &[u16],
@@ -141,11 +141,11 @@ fn of_list(
     aside: &mut [u16],
     sentence: &mut [u16],
 ) -> ReplayAnswer
-    requires { ⌜ ((g : Grammar) × View (now words) (now starts) n rules g) × ((length (now list) ≤ 4096) ×
+    requires { ⌜ ((g : Grammar) × View (now words) (now places) n rules g) × ((length (now list) ≤ 4096) ×
         (2 * length (now list) ≤ length (now stack))) ⌝ }
     ensures { λ r. ⌜ Replay (now (words .entry)) (now (list .entry)) (now (sentence .entry)) r (now (sentence .exit)) ⌝ }
 {
-    match run(words, starts, n, rules, list, stack, aside) {
+    match run(words, places, n, rules, list, stack, aside) {
         Outcome::Stopped { place } => ReplayAnswer::Refused {
             number: NO_DERIVATION,
             place,
@@ -161,7 +161,7 @@ fn of_list(
                 copy_front(aside, tokens, sentence);
                 return ReplayAnswer::Done(tokens);
             }
-            run(words, starts, n, rules, list, stack, sentence);
+            run(words, places, n, rules, list, stack, sentence);
             ReplayAnswer::Done(tokens)
         }
     }

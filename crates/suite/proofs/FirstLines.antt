@@ -8,8 +8,8 @@ use lib.ListN.{length, take}
 use lib.Seq.{length-take-le}
 use Rattle.answers.specs.Refusals.{number, broken-layout}
 use Rattle.grammar.specs.Words.{Grammar, R, Judged, layout, reads, faults}
-use Rattle.grammar.specs.Judge.{answerOf}
-use Rattle.grammar.specs.declared.layout.LayoutAnswer.the-variants as layout-answer
+use Rattle.layout.specs.Judge.{answerOf}
+use Rattle.layout.specs.declared.judge.LayoutAnswer.the-variants as layout-answer
 use Rattle.grammar.proofs.LayoutExact.{in-bounds, reads-unique}
 use Rattle.packed.specs.Promise.{Unpacked}
 use Rattle.packed.specs.declared.FileAnswer.the-variants as file-answer

@@ -13,9 +13,9 @@ ghost use Rattle.suite.specs.Answered.{Ended, Answered};
 ghost use Rattle.suite.specs.Begun.{OneLine, FirstLine, OfWords, Begun};
 ghost use Rattle.suite.specs.Filled.{Waits, Filled};
 ghost use Rattle.suite.specs.Pieces.{Clear, Large, FirstPiece, Reached, NextPiece, Made};
-use grammar::layout;
-use grammar::layout::LayoutAnswer;
 use handout::NextAnswer;
+use layout::judge;
+use layout::judge::LayoutAnswer;
 use packed::FileAnswer;
 use tables::TableAnswer;
 
@@ -221,7 +221,7 @@ fn of_grammar(words: &[u16], text: &mut [u8]) -> Piece
     requires { ⌜ mostLine ≤ length (now text) ⌝ }
     ensures { λ r. ⌜ FirstLine (now (words .entry)) (now (text .exit)) r ⌝ }
 {
-    match layout::judge(words) {
+    match judge::judge(words) {
         LayoutAnswer::Grammar {
             nonterminals,
             terminals,

@@ -11,13 +11,13 @@ use Rattle.grammar.specs.Words.{Grammar}
 use Rattle.grammar.specs.Certificates.{Holds}
 use Rattle.grammar.proofs.ContextsExist.{holds-below}
 use Rattle.tables.specs.Table.{entry, totalEntry}
-use Rattle.grammar.proofs.RulesInView.{View}
+use Rattle.layout.specs.View.{View}
 use Rattle.tables.specs.Tests.{Says, ChosenPasses, ContextPasses, StartPasses, ChoicePasses}
 use Rattle.tables.proofs.Telling.{says-eq}
 use Rattle.tables.proofs.SymbolsHeld.{holds-there, held-there}
 use Rattle.tables.proofs.RulesRead.{left, right, read-left, read-right, read-rule, read-total}
 
-module _ {ws starts : List ℕ} {n rules : ℕ} {g : Grammar} (view : View ws starts n rules g) (table : List ℕ) (a : ℕ) where
+module _ {ws places : List ℕ} {n rules : ℕ} {g : Grammar} (view : View ws places n rules g) (table : List ℕ) (a : ℕ) where
   -- the chosen rule k
   module _ {k : ℕ} (is : k ≡ entry table a 1) where
     pub chosen-left : ChosenPasses g table a → left view k ≡ a

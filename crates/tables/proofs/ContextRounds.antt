@@ -14,7 +14,7 @@ use lib.ListN.{length, getD}
 use lib.Seq.{getD-set-same, getD-set-other}
 use Rattle.grammar.specs.Words.{Grammar, RuleAt}
 use Rattle.grammar.specs.Measure.{plain}
-use Rattle.grammar.specs.Rules.{rightAt}
+use Rattle.layout.specs.Rules.{rightAt}
 use Rattle.grammar.specs.Caps.{plainCap, OfOpen}
 use Rattle.grammar.specs.Certificates.{wordSize, Holds, othersSize}
 use Rattle.grammar.proofs.AtRest.{place-figure}
@@ -26,7 +26,8 @@ use Rattle.tables.proofs.DoneLeasts.{done-certificate}
 use Rattle.tables.proofs.ContextsFall.{place-length, places-no-higher, context-no-higher}
 use Rattle.tables.proofs.FiguresHaveRoom.{room-for-all}
 use Rattle.tables.proofs.FiguresKept.{lowered-no-higher, lowered-known}
-use Rattle.grammar.proofs.RulesInView.{View, viewed-rule, viewed-left, viewed-right, viewed-room}
+use Rattle.layout.specs.View.{View}
+use Rattle.layout.proofs.RulesInView.{viewed-rule, viewed-left, viewed-right, viewed-room}
 
 abbrev OpenCut : Grammar → ℕ → ℕ → Type 0
 OpenCut g A y = OfOpen plain (plainCap 4096) g A y
@@ -167,16 +168,16 @@ module _ {n size k B : ℕ} {vs w us us′ seen seen′ : List ℕ} {f : ℕ} (s
       })
 
 -- A TURN, as the functions read the rule
-module _ {ws starts sizes vs : List ℕ} {n rules : ℕ} {g : Grammar} (known : Known ws starts n rules sizes vs g) where
+module _ {ws places sizes vs : List ℕ} {n rules : ℕ} {g : Grammar} (known : Known ws places n rules sizes vs g) where
   context-turn : {k f : ℕ} {us us′ seen seen′ : List ℕ} → k < rules → 128 ≤ length us →
-      ContextStep n (getD sizes k 0) vs k (getD ws (getD starts k 0) 0) (rightAt ws (getD starts k 0)) us seen us′ seen′ f →
+      ContextStep n (getD sizes k 0) vs k (getD ws (getD places k 0) 0) (rightAt ws (getD places k 0)) us seen us′ seen′ f →
       SeenTurn g vs k us seen us′ seen′ f
   context-turn {k} {f} {us} {us′} {seen} {seen′} h long step = record {
     keeps = keeps (viewed-rule view k h);
     still = still (viewed-rule view k h);
   }
     where
-      view : View ws starts n rules g
+      view : View ws places n rules g
       view = known .view
 
       room : g .N ≤ length us
@@ -208,7 +209,7 @@ module _ {ws starts sizes vs : List ℕ} {n rules : ℕ} {g : Grammar} (known : 
 
   -- as the functions read it, a turn that lowers nothing, and one that others follow
   module _ {B k at f size : ℕ} {w us us′ seen seen′ : List ℕ} (h : k < rules) (long : 128 ≤ length us)
-      (is : at ≡ getD starts k 0) (e : B ≡ getD ws at 0) (e′ : w ≡ rightAt ws at) (e″ : size ≡ getD sizes k 0)
+      (is : at ≡ getD places k 0) (e : B ≡ getD ws at 0) (e′ : w ≡ rightAt ws at) (e″ : size ≡ getD sizes k 0)
       (step : ContextStep n size vs k B w us seen us′ seen′ f) where
     turn-of : SeenTurn g vs k us seen us′ seen′ f
     turn-of = context-turn h long (rw (e, e′, e″, is) at step)
@@ -224,10 +225,10 @@ module _ {ws starts sizes vs : List ℕ} {n rules : ℕ} {g : Grammar} (known : 
     context-followed follows = record { keeps = λ s. follows (turn-of .keeps s); still = λ z. absurd (omega arith) }
 
   -- the left side of a rule has a place among the contexts, and each nonterminal one among the leasts
-  pub left-room : {B k at m : ℕ} → k < rules → 128 ≤ m → at ≡ getD starts k 0 → B ≡ getD ws at 0 → B < m
+  pub left-room : {B k at m : ℕ} → k < rules → 128 ≤ m → at ≡ getD places k 0 → B ≡ getD ws at 0 → B < m
   left-room {B} {k} {m = m} h long is e = go (viewed-rule (known .view) k h)
     where
-      left : B ≡ getD ws (getD starts k 0) 0
+      left : B ≡ getD ws (getD places k 0) 0
       left = rw is at e
 
       go : (C : ℕ) × (w : List ℕ) × RuleAt g k C w → B < m

@@ -10,7 +10,7 @@ use native.Mathlib.Omega.{arith}
 use lib.ListN.{length, getD}
 use Rattle.grammar.specs.Words.{Grammar, RuleAt}
 use Rattle.grammar.specs.Measure.{plain}
-use Rattle.grammar.specs.Rules.{rightAt}
+use Rattle.layout.specs.Rules.{rightAt}
 use Rattle.grammar.specs.Caps.{plainCap, OfTree}
 use Rattle.grammar.specs.Certificates.{wordSize}
 use Rattle.grammar.proofs.AtRest.{rule-figure}
@@ -21,7 +21,8 @@ use Rattle.tables.proofs.FiguresFall.{lowered-fallen}
 use Rattle.tables.proofs.FiguresKept.{lowered-once, lowered-length, lowered-known}
 use Rattle.tables.proofs.RoundSoFar.{SoFar}
 use Rattle.tables.proofs.SymbolsCost.{quiet-too-many}
-use Rattle.grammar.proofs.RulesInView.{View, viewed-rule, viewed-left, viewed-right, viewed-room}
+use Rattle.layout.specs.View.{View}
+use Rattle.layout.proofs.RulesInView.{viewed-rule, viewed-left, viewed-right, viewed-room}
 
 pub step-fallen : {A n k : ℕ} {w vs us : List ℕ} → LeastStep A w n vs us k → Fallen vs us k
 step-fallen (too-many h) = omega arith
@@ -65,9 +66,9 @@ module _ (g : Grammar) {A : ℕ} {w : List ℕ} {k : ℕ} (r : RuleAt g k A w) (
   step-still short (tried x s l) e = let (q, z) = lowered-still s l e in (q, λ sound have. z)
 
 -- A TURN, as the functions read the rule
-module _ {ws starts : List ℕ} {n rules : ℕ} {g : Grammar} (view : View ws starts n rules g) where
+module _ {ws places : List ℕ} {n rules : ℕ} {g : Grammar} (view : View ws places n rules g) where
   pub least-turn : {k m : ℕ} {vs us : List ℕ} → k < rules → 128 ≤ length vs →
-      LeastStep (getD ws (getD starts k 0) 0) (rightAt ws (getD starts k 0)) n vs us m →
+      LeastStep (getD ws (getD places k 0) 0) (rightAt ws (getD places k 0)) n vs us m →
       Turn (LeastsSound g) (QuietIfSound g) k vs us m
   least-turn {k} {m} {vs} {us} h long step = record { keeps = keeps (viewed-rule view k h); still = still (viewed-rule view k h) }
     where
@@ -86,12 +87,12 @@ module _ {ws starts : List ℕ} {n rules : ℕ} {g : Grammar} (view : View ws st
           )
 
   -- out of turn too
-  pub least-kept : {A k at m : ℕ} {w vs us : List ℕ} → k < rules → 128 ≤ length vs → at ≡ getD starts k 0 → A ≡ getD ws at 0 →
+  pub least-kept : {A k at m : ℕ} {w vs us : List ℕ} → k < rules → 128 ≤ length vs → at ≡ getD places k 0 → A ≡ getD ws at 0 →
       w ≡ rightAt ws at → LeastStep A w n vs us m → LeastsSound g vs → LeastsSound g us
   least-kept h long found e e′ step = least-turn h long (rw (e, e′, found) at step) .keeps
 
   -- a turn that lowers nothing, and one that others follow
-  module _ {A k at m : ℕ} {w vs us : List ℕ} (h : k < rules) (long : 128 ≤ length vs) (found : at ≡ getD starts k 0)
+  module _ {A k at m : ℕ} {w vs us : List ℕ} (h : k < rules) (long : 128 ≤ length vs) (found : at ≡ getD places k 0)
       (e : A ≡ getD ws at 0) (e′ : w ≡ rightAt ws at) (step : LeastStep A w n vs us m) where
     turn-of : Turn (LeastsSound g) (QuietIfSound g) k vs us m
     turn-of = least-turn h long (rw (e, e′, found) at step)
@@ -111,5 +112,5 @@ rounded round sound = record {
 }
 
 -- a round after its first i turns, from the figures vs to us
-abbrev pub LeastsSoFar : (ws starts : List ℕ) (n rules : ℕ) → Bool → ℕ → List ℕ → List ℕ → ℕ → Type 0
-LeastsSoFar ws starts n rules up i vs us m = SoFar (View ws starts n rules) LeastsSound QuietIfSound up rules i vs us m
+abbrev pub LeastsSoFar : (ws places : List ℕ) (n rules : ℕ) → Bool → ℕ → List ℕ → List ℕ → ℕ → Type 0
+LeastsSoFar ws places n rules up i vs us m = SoFar (View ws places n rules) LeastsSound QuietIfSound up rules i vs us m

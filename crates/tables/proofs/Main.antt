@@ -8,7 +8,7 @@ use mathlib.Core.List.{List, [], _∷_}
 use lib.ListN.{getD, take}
 use Rattle.answers.specs.Refusals.{Refusal, broken-layout, no-tree, unreached, oversize}
 use Rattle.grammar.specs.Words.{Grammar, R, layout, reads, faults, Are, InBounds, FaultAt}
-use Rattle.grammar.specs.Judge.{startsOf}
+use Rattle.layout.specs.Judge.{placesOf}
 use Rattle.grammar.specs.Measure.{plain}
 use Rattle.grammar.specs.Refusals.{Lowest, NoTree, AllTrees, Unreached, AllReached, Oversize, AllFit, Accepted}
 use Rattle.grammar.specs.Certificates.{Leasts, Contexts}
@@ -164,7 +164,7 @@ test-not-its = TestSettles.test-not-its
 
 -- Beside the answer that the table is its own stand the places of the grammar's rules, as `layout::read` has them.
 pub test-places : (words table : List ℕ) {r : Testing} → TestPromise words table r →
-    (n : ℕ) → r .answer ≡ Its n → r .starts ≡ startsOf (layout words)
+    (n : ℕ) → r .answer ≡ Its n → r .places ≡ placesOf (layout words)
 test-places = TestSettles.test-places
 
 -- What `tables` wrote, `test` takes.

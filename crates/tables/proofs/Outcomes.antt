@@ -8,18 +8,18 @@ use mathlib.Core.List.{List}
 use lib.ListN.{length, getD, set}
 use Rattle.answers.specs.Buffers.{over}
 use Rattle.grammar.specs.Words.{Grammar, RuleAt, R, InBounds, layout, reads}
-use Rattle.grammar.specs.Judge.{startsOf}
+use Rattle.layout.specs.Judge.{placesOf}
 use Rattle.grammar.specs.Refusals.{AllFit, Accepted}
 use Rattle.grammar.proofs.LayoutExact.{in-bounds, reads-unique}
 use Rattle.grammar.proofs.RuleNumbers.{rule-number}
 use Rattle.grammar.proofs.CappedTotals.{all-fit-exact}
 use Rattle.tables.specs.Table.{HasTable, tableLength}
 use Rattle.tables.specs.Promise.{Tables, row-4, row-5, row-6, row-7, row-3, done}
-use Rattle.tables.specs.Promise.{Tested, test-4, test-5, test-6, test-7, its, not-its, startsWith, TestPromise}
+use Rattle.tables.specs.Promise.{Tested, test-4, test-5, test-6, test-7, its, not-its, placesWith, TestPromise}
 use Rattle.tables.specs.Tests.{Says}
 use Rattle.tables.specs.Figures.{figure, FirstAbove, found-none, LeastsDone, ContextsRest, TotalsOf}
 use Rattle.tables.specs.LeastSteps.{LeastsSized}
-use Rattle.grammar.proofs.RulesInView.{View, Begun}
+use Rattle.layout.specs.View.{View, Begun}
 use Rattle.tables.specs.Figures.{Empty, LeastsSound, ContextsSound, ChosenOf, PlacesOf}
 use Rattle.tables.specs.Rows.{Grown, Placed}
 use Rattle.tables.specs.Written.{Room}
@@ -39,24 +39,24 @@ use Rattle.tables.proofs.TableEntries.{tableWords}
 use Rattle.tables.proofs.TableFound.{table-found}
 
 -- the arrays at the outset
-pub leasts-start : {ws starts xs : List ℕ} {n start rules : ℕ} (p : Begun ws starts n start rules) → Empty xs →
+pub leasts-start : {ws places xs : List ℕ} {n start rules : ℕ} (p : Begun ws places n start rules) → Empty xs →
     LeastsSound (p .grammar) xs
 leasts-start {ws} {xs = xs} p e = leasts-begin (p .grammar) xs (in-bounds ws (p .view .is) .nonterminals) e
 
-pub start-few : {ws starts vs sizes : List ℕ} {n start rules : ℕ} → Grown ws starts n start rules vs sizes → start < 128
+pub start-few : {ws places vs sizes : List ℕ} {n start rules : ℕ} → Grown ws places n start rules vs sizes → start < 128
 start-few {ws} p =
     let ok = in-bounds ws (p .view .is) in
     let e = p .first in
     omega (arith, ok .start-below, ok .nonterminals)
 
-pub contexts-start : {ws starts vs sizes xs : List ℕ} {n start rules : ℕ} (p : Grown ws starts n start rules vs sizes) →
+pub contexts-start : {ws places vs sizes xs : List ℕ} {n start rules : ℕ} (p : Grown ws places n start rules vs sizes) →
     Empty xs → ContextsSound (p .grammar) (set xs start 0)
 contexts-start {ws} {xs = xs} p e =
     let ok = in-bounds ws (p .view .is) in
     rw (p .first) (contexts-begin (p .grammar) xs (ok .nonterminals) (ok .start-below) e)
 
 -- 5, or what goes on
-module _ {ws starts : List ℕ} {n start rules : ℕ} (g : Grammar) (view : View ws starts n rules g) (first : start ≡ g .start)
+module _ {ws places : List ℕ} {n start rules : ℕ} (g : Grammar) (view : View ws places n rules g) (first : start ≡ g .start)
     {vs sizes : List ℕ} (sized : LeastsSized g vs sizes) {found : Found} (search : FirstAbove vs n 4097 found) where
   searched-leasts : FirstAbove vs (g .N) 4097 found
   searched-leasts = subst (λ (m : ℕ). FirstAbove vs m 4097 found) (view .nonterminals) search
@@ -68,7 +68,7 @@ module _ {ws starts : List ℕ} {n start rules : ℕ} (g : Grammar) (view : View
   leasts-done : found ≡ Nothing → LeastsDone g vs
   leasts-done e = leasts-found g vs (sized .rest) (subst (FirstAbove vs (g .N) 4097) e searched-leasts)
 
-  pub grown : found ≡ Nothing → Grown ws starts n start rules vs sizes
+  pub grown : found ≡ Nothing → Grown ws places n start rules vs sizes
   grown e = record {
     grammar = g;
     view = view;
@@ -78,7 +78,7 @@ module _ {ws starts : List ℕ} {n start rules : ℕ} (g : Grammar) (view : View
   }
 
 -- 6, or what goes on
-module _ {ws starts : List ℕ} {n start rules : ℕ} {vs sizes : List ℕ} (p : Grown ws starts n start rules vs sizes) {us : List ℕ}
+module _ {ws places : List ℕ} {n start rules : ℕ} {vs sizes : List ℕ} (p : Grown ws places n start rules vs sizes) {us : List ℕ}
     (rest : ContextsRest (p .grammar) vs us) {found : Found} (search : FirstAbove us n 4097 found) where
   searched-contexts : FirstAbove us (p .grammar .N) 4097 found
   searched-contexts = subst (λ (m : ℕ). FirstAbove us m 4097 found) (p .view .nonterminals) search
@@ -88,7 +88,7 @@ module _ {ws starts : List ℕ} {n start rules : ℕ} {vs sizes : List ℕ} (p :
       rw q (row-6 (p .view .is) (all-trees (p .grammar) vs (p .leasts))
       (row-6-found (p .grammar) vs (p .leasts) us rest a (subst (FirstAbove us (p .grammar .N) 4097) e searched-contexts)))
 
-  pub placed : found ≡ Nothing → Placed ws starts n rules vs sizes us
+  pub placed : found ≡ Nothing → Placed ws places n rules vs sizes us
   placed e = record {
     grammar = p .grammar;
     view = p .view;
@@ -98,24 +98,24 @@ module _ {ws starts : List ℕ} {n start rules : ℕ} {vs sizes : List ℕ} (p :
   }
 
 -- the leasts and the contexts have a place for each nonterminal
-pub placed-room : {ws starts vs sizes us : List ℕ} {n rules : ℕ} → Placed ws starts n rules vs sizes us →
+pub placed-room : {ws places vs sizes us : List ℕ} {n rules : ℕ} → Placed ws places n rules vs sizes us →
     (n ≤ length vs) × (n ≤ length us)
 placed-room {vs = vs} {us = us} p =
     let e = p .view .nonterminals in
     let N = p .grammar .N in
     (rw e (room-for-all vs N (p .leasts .all)), rw e (room-for-all us N (p .contexts .all)))
 
-pub all-placed : {ws starts : List ℕ} {n rules : ℕ} {vs sizes us chosen places : List ℕ} → Placed ws starts n rules vs sizes us →
-    n ≤ length chosen → n ≤ length places → Room n vs chosen us places
+pub all-placed : {ws places : List ℕ} {n rules : ℕ} {vs sizes us chosen leads : List ℕ} → Placed ws places n rules vs sizes us →
+    n ≤ length chosen → n ≤ length leads → Room n vs chosen us leads
 all-placed p c q = let (of-leasts, of-contexts) = placed-room p in record {
   of-leasts = of-leasts;
   of-chosen = c;
   of-contexts = of-contexts;
-  of-places = q;
+  of-leads = q;
 }
 
 -- 7, 3, or the table
-module _ {ws starts : List ℕ} {n rules : ℕ} {vs sizes us : List ℕ} (p : Placed ws starts n rules vs sizes us) {totals : List ℕ}
+module _ {ws places : List ℕ} {n rules : ℕ} {vs sizes us : List ℕ} (p : Placed ws places n rules vs sizes us) {totals : List ℕ}
     (of-totals : TotalsOf (p .grammar) us sizes totals) (long : 256 ≤ length totals)
     {found : Found} (search : FirstAbove totals rules 4096 found) where
   ok : InBounds (p .grammar)
@@ -160,25 +160,25 @@ module _ {ws starts : List ℕ} {n rules : ℕ} {vs sizes us : List ℕ} (p : Pl
           omega arith
 
   -- the words that were written, in the grammar's own numbers
-  same-words : (chosen places : List ℕ) →
-      let own = tableWords (p .grammar .N) vs chosen us places totals (R (p .grammar)) in
-      tableWords n vs chosen us places totals rules ≡ own
-  same-words chosen places = rw (p .view .nonterminals, p .view .all-rules) refl
+  same-words : (chosen leads : List ℕ) →
+      let own = tableWords (p .grammar .N) vs chosen us leads totals (R (p .grammar)) in
+      tableWords n vs chosen us leads totals rules ≡ own
+  same-words chosen leads = rw (p .view .nonterminals, p .view .all-rules) refl
 
-  pub writes : (chosen places : List ℕ) {before after : List ℕ} → found ≡ Nothing → 5 * n + rules ≤ length before →
-      ChosenOf (p .grammar) vs sizes chosen rules → PlacesOf (p .grammar) vs us totals places (32 * rules) →
-      after ≡ over (tableWords n vs chosen us places totals rules) before → Tables ws before (Done (5 * n + rules)) after
-  writes chosen places {before} e l c q w =
+  pub writes : (chosen leads : List ℕ) {before after : List ℕ} → found ≡ Nothing → 5 * n + rules ≤ length before →
+      ChosenOf (p .grammar) vs sizes chosen rules → PlacesOf (p .grammar) vs us totals leads (32 * rules) →
+      after ≡ over (tableWords n vs chosen us leads totals rules) before → Tables ws before (Done (5 * n + rules)) after
+  writes chosen leads {before} e l c q w =
       let all = figures (p .grammar) vs (p .leasts) us (p .contexts) in
       let (leasts, contexts) = all-fit-exact (p .grammar) (figure vs) (figure us) all (fits e) in
-      let t = table-found (p .grammar) ok vs us sizes totals chosen places leasts contexts (p .sizes-are) (exact e)
+      let t = table-found (p .grammar) ok vs us sizes totals chosen leads leasts contexts (p .sizes-are) (exact e)
       (subst (ChosenOf (p .grammar) vs sizes chosen) (p .view .all-rules) c)
-      (subst (λ (m : ℕ). PlacesOf (p .grammar) vs us totals places (32 * m)) (p .view .all-rules) q) in
-      rw (w ∙ ap (λ (x : List ℕ). over x before) (same-words chosen places), needed) (done (p .view .is) (all-trees (p .grammar) vs (p .leasts))
+      (subst (λ (m : ℕ). PlacesOf (p .grammar) vs us totals leads (32 * m)) (p .view .all-rules) q) in
+      rw (w ∙ ap (λ (x : List ℕ). over x before) (same-words chosen leads), needed) (done (p .view .is) (all-trees (p .grammar) vs (p .leasts))
       (all-reached (p .grammar) vs (p .leasts) us (p .contexts)) (fits e) (rw needed at l) t)
 
 -- a lent table, tested: it is the grammar's, or it is not, and then rows 5 to 7 are those of a table without room
-module _ {ws starts : List ℕ} {n start rules : ℕ} (p : Begun ws starts n start rules) (table : List ℕ) where
+module _ {ws places : List ℕ} {n start rules : ℕ} (p : Begun ws places n start rules) (table : List ℕ) where
   pub tests-its : (r : Bool) → r ≡ true → Says r (Accepted (p .grammar) × HasTable (p .grammar) table) →
       Tested ws table (test.Its rules)
   tests-its true e z = rw (p .view .all-rules) (its (p .view .is) (z .0) (z .1))
@@ -216,9 +216,9 @@ module _ {ws starts : List ℕ} {n start rules : ℕ} (p : Begun ws starts n sta
         go (row-3 e t u f l) is = rw (is .0 refl) (accepts e (record { trees = t; reached = u; fit = f }))
 
 -- what `test` hands back, of an answer and where the rules stand
-pub with-places : {ws table starts : List ℕ} {a : TableTest} {r : Testing} → Tested ws table a → starts ≡ startsOf (layout ws) →
-    r .answer ≡ a → r .starts ≡ startsWith a starts → TestPromise ws table r
+pub with-places : {ws table places : List ℕ} {a : TableTest} {r : Testing} → Tested ws table a → places ≡ placesOf (layout ws) →
+    r .answer ≡ a → r .places ≡ placesWith a places → TestPromise ws table r
 with-places {ws} {table} {a = a} t s same stand = record {
   tested = subst (λ (x : TableTest). Tested ws table x) (sym same) t;
-  stand = stand ∙ ap (startsWith a) s ∙ ap (λ (x : TableTest). startsWith x (startsOf (layout ws))) (sym same);
+  stand = stand ∙ ap (placesWith a) s ∙ ap (λ (x : TableTest). placesWith x (placesOf (layout ws))) (sym same);
 }

@@ -8,9 +8,10 @@ use native.Mathlib.Omega.{arith}
 use borrow.Author.Count.{below-more}
 use lib.ListN.{length, getD}
 use Rattle.grammar.specs.Words.{Grammar, RuleAt}
-use Rattle.grammar.specs.Rules.{rightAt}
+use Rattle.layout.specs.Rules.{rightAt}
 use Rattle.grammar.proofs.RuleNumbers.{rule-number}
-use Rattle.grammar.proofs.RulesInView.{View, viewed-rule, viewed-left, viewed-right}
+use Rattle.layout.specs.View.{View}
+use Rattle.layout.proofs.RulesInView.{viewed-rule, viewed-left, viewed-right}
 use Rattle.tables.specs.Figures.{figure, capped, HaveIn, LeastsSound, LeastQuiet}
 use Rattle.tables.specs.LeastSteps.{SizeOf, SizeStep, has-none, lowers, noted, SizeHere, Settled, LeastsSized}
 use Rattle.tables.proofs.WrittenInOrder.{written-more}
@@ -19,9 +20,9 @@ use Rattle.tables.proofs.WrittenInOrder.{written-more}
 abbrev Here : Grammar → List ℕ → ℕ → ℕ → Type 0
 Here g vs r x = LeastQuiet g vs r × SizeHere g vs r x
 
-module _ {ws starts : List ℕ} {n rules : ℕ} {g : Grammar} (view : View ws starts n rules g) where
+module _ {ws places : List ℕ} {n rules : ℕ} {g : Grammar} (view : View ws places n rules g) where
   -- the rule at an index
-  module _ {r at : ℕ} {w : List ℕ} (e : at ≡ getD starts r 0) (e′ : w ≡ rightAt ws at) where
+  module _ {r at : ℕ} {w : List ℕ} (e : at ≡ getD places r 0) (e′ : w ≡ rightAt ws at) where
     left-is : {A : ℕ} {u : List ℕ} → RuleAt g r A u → getD ws at 0 ≡ A
     left-is rule = ap (λ (p : ℕ). getD ws p 0) e ∙ viewed-left view rule
 

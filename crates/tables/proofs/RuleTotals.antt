@@ -7,14 +7,15 @@ use lib.ListN.{getD}
 use Rattle.grammar.specs.Words.{Grammar}
 use Rattle.grammar.proofs.RuleNumbers.{rule-number}
 use Rattle.tables.specs.Figures.{figure, capped, TotalsOf}
-use Rattle.grammar.proofs.RulesInView.{View, viewed-left}
+use Rattle.layout.specs.View.{View}
+use Rattle.layout.proofs.RulesInView.{viewed-left}
 
 -- the total of rule k, whatever the words
-abbrev pub totalAt : (ws starts sizes us : List ℕ) → ℕ → ℕ
-totalAt ws starts sizes us k = capped (figure us (getD ws (getD starts k 0) 0) + getD sizes k 0)
+abbrev pub totalAt : (ws places sizes us : List ℕ) → ℕ → ℕ
+totalAt ws places sizes us k = capped (figure us (getD ws (getD places k 0) 0) + getD sizes k 0)
 
-pub totals-of : {ws starts : List ℕ} {n rules : ℕ} {g : Grammar} → View ws starts n rules g → (sizes us totals : List ℕ) →
-    ((k : ℕ) → k < rules → getD totals k 0 ≡ totalAt ws starts sizes us k) → TotalsOf g us sizes totals
+pub totals-of : {ws places : List ℕ} {n rules : ℕ} {g : Grammar} → View ws places n rules g → (sizes us totals : List ℕ) →
+    ((k : ℕ) → k < rules → getD totals k 0 ≡ totalAt ws places sizes us k) → TotalsOf g us sizes totals
 totals-of view sizes us totals read k A w rule =
     read k (omega (arith, view .all-rules, rule-number rule)) ∙
     ap (λ (B : ℕ). capped (figure us B + getD sizes k 0)) (viewed-left view rule)

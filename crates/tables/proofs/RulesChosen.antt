@@ -9,12 +9,13 @@ use Rattle.grammar.specs.Words.{Grammar, RuleAt}
 use Rattle.tables.specs.Figures.{figure, RuleFits, ChosenOf}
 use Rattle.tables.specs.Noted.{NotedWhere, does, does-not}
 use Rattle.tables.proofs.FirstsNoted.{firsts-past, firsts-noted}
-use Rattle.grammar.proofs.RulesInView.{View, viewed-rule, viewed-left, viewed-room}
+use Rattle.layout.specs.View.{View}
+use Rattle.layout.proofs.RulesInView.{viewed-rule, viewed-left, viewed-room}
 
-module _ {ws starts : List ℕ} {n rules : ℕ} {g : Grammar} (view : View ws starts n rules g) (vs sizes : List ℕ) (r : ℕ) where
+module _ {ws places : List ℕ} {n rules : ℕ} {g : Grammar} (view : View ws places n rules g) (vs sizes : List ℕ) (r : ℕ) where
   -- the left side of rule r, as it is read
   abbrev leftOf : ℕ
-  leftOf = getD ws (getD starts r 0) 0
+  leftOf = getD ws (getD places r 0) 0
 
   left-is : (A : ℕ) → RuleFits g vs sizes A r → A ≡ leftOf
   left-is A f = sym (viewed-left view (f .rule))

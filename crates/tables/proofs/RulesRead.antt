@@ -8,15 +8,15 @@ use mathlib.Core.Bool.{Bool}
 use mathlib.Core.List.{List}
 use lib.ListN.{getD}
 use Rattle.grammar.specs.Words.{Grammar, RuleAt, InBounds}
-use Rattle.grammar.specs.Rules.{rightAt}
+use Rattle.layout.specs.Rules.{rightAt}
 use Rattle.grammar.proofs.LayoutExact.{in-bounds, rule-at, rule-below}
-use Rattle.grammar.proofs.RulesByNumber.{left-of-rule, right-of-rule}
+use Rattle.layout.proofs.RulesByNumber.{left-of-rule, right-of-rule}
 use Rattle.tables.specs.Table.{totalEntry}
-use Rattle.grammar.proofs.RulesInView.{View}
+use Rattle.layout.specs.View.{View}
 use Rattle.tables.specs.Tests.{Says, PlacesPass, SizePasses, one-fails, all-pass, LeftPasses, RulePasses}
 use Rattle.tables.proofs.Telling.{says-same}
 
-module _ {ws starts : List ℕ} {n rules : ℕ} {g : Grammar} (view : View ws starts n rules g) where
+module _ {ws places : List ℕ} {n rules : ℕ} {g : Grammar} (view : View ws places n rules g) where
   pub bounds : InBounds g
   bounds = in-bounds ws (view .is)
 
@@ -25,10 +25,10 @@ module _ {ws starts : List ℕ} {n rules : ℕ} {g : Grammar} (view : View ws st
 
   -- the left side and the right side that are read for rule k
   abbrev pub left : ℕ → ℕ
-  left k = getD ws (getD starts k 0) 0
+  left k = getD ws (getD places k 0) 0
 
   abbrev pub right : ℕ → List ℕ
-  right k = rightAt ws (getD starts k 0)
+  right k = rightAt ws (getD places k 0)
 
   pub read-left : {k A : ℕ} {w : List ℕ} → RuleAt g k A w → left k ≡ A
   read-left {k} r = rw (view .begin k (omega (arith, below-rules r, view .all-rules))) (left-of-rule ws g (view .is) r)

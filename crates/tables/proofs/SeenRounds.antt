@@ -74,14 +74,14 @@ module _ (g : Grammar) (vs : List ℕ) where
 
 -- A round after its first i turns, as a loop over them needs it: the arrays kept their lengths, the count is small, so many
 -- contexts fell, and for each grammar that is known the turns did what turns do.
-module _ (ws starts : List ℕ) (n rules : ℕ) (sizes vs : List ℕ) where
+module _ (ws places : List ℕ) (n rules : ℕ) (sizes vs : List ℕ) where
   pub record SeenSoFar (up : Bool) (i : ℕ) (us seen us′ seen′ : List ℕ) (f : ℕ) : Type 0 where
     pub within : i ≤ rules
     pub same-length : length us′ ≡ length us
     pub same-seen : length seen′ ≡ length seen
     pub few : f ≤ i
     pub fallen : Fallen us us′ f
-    pub turns : (g : Grammar) → Known ws starts n rules sizes vs g → SeenTurns g vs up rules i us seen us′ seen′ f
+    pub turns : (g : Grammar) → Known ws places n rules sizes vs g → SeenTurns g vs up rules i us seen us′ seen′ f
 
   pub none-seen : {up : Bool} (us seen : List ℕ) → SeenSoFar up 0 us seen us seen 0
   none-seen us seen = record {
@@ -97,7 +97,7 @@ module _ (ws starts : List ℕ) (n rules : ℕ) (sizes vs : List ℕ) where
   pub one-more-seen : {up : Bool} {i m f k : ℕ} {us us′ us″ seen seen′ seen″ : List ℕ} → i < rules →
       SeenSoFar up i us seen us′ seen′ m → k ≡ turn up rules i → length us″ ≡ length us′ → length seen″ ≡ length seen′ →
       f ≤ 1 → Fallen us′ us″ f →
-      ((g : Grammar) → Known ws starts n rules sizes vs g → SeenTurn g vs k us′ seen′ us″ seen″ f) →
+      ((g : Grammar) → Known ws places n rules sizes vs g → SeenTurn g vs k us′ seen′ us″ seen″ f) →
       SeenSoFar up (i + 1) us seen us″ seen″ (m + f)
   one-more-seen h so-far in-turn same same′ once fallen last = record {
     within = omega arith;
@@ -109,5 +109,5 @@ module _ (ws starts : List ℕ) (n rules : ℕ) (sizes vs : List ℕ) where
   }
 
   pub all-seen : {up : Bool} {i f : ℕ} {us us′ seen seen′ : List ℕ} → SeenSoFar up i us seen us′ seen′ f → i ≡ rules →
-      (g : Grammar) → Known ws starts n rules sizes vs g → SeenRound g vs rules us seen us′ seen′ f
+      (g : Grammar) → Known ws places n rules sizes vs g → SeenRound g vs rules us seen us′ seen′ f
   all-seen so-far end g known = turns-all g vs (rw end at (so-far .turns g known))

@@ -15,8 +15,8 @@ use Rattle.tables.proofs.TableTests.{table-tests}
 pub passes?-sound : (g : Grammar) (ws : List ℕ) → So (passes? g ws) → Passes g ws
 passes?-sound g ws t =
     let (long, others) = and-eq-true-iff (eqb (length ws) (tableLength g)) _ .0 t in
-    let (starts, figures) = and-eq-true-iff (start-words? g ws) _ .0 others in
-    let (rule, place) = and-eq-true-iff (eqb (entry ws (g .start) 3) 65535) _ .0 starts in
+    let (places, figures) = and-eq-true-iff (start-words? g ws) _ .0 others in
+    let (rule, place) = and-eq-true-iff (eqb (entry ws (g .start) 3) 65535) _ .0 places in
     record {
       long = eqb-true (length ws) (tableLength g) long;
       figures = figures-certified g (figuresOf g ws) figures;

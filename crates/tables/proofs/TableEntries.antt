@@ -25,11 +25,11 @@ pub same-five : (f : ℕ → ℕ) (at : ℕ) (xs : List ℕ) {a b c d e : ℕ} �
     set (set (set (set (set xs at a) (at + 1) b) (at + 2) c) (at + 3) d) (at + 4) e ≡ storeFive f at xs
 same-five f at xs p q r s t = rw (p, q, r, s, t)
 
-module _ (n : ℕ) (leasts chosen contexts places totals : List ℕ) where
+module _ (n : ℕ) (leasts chosen contexts leads totals : List ℕ) where
   abbrev pub word : ℕ → ℕ
-  word i = tableWord n leasts chosen contexts places totals i
+  word i = tableWord n leasts chosen contexts leads totals i
 
-  pub word-of-five : (i : ℕ) → i < 5 * n → word i ≡ fiveWord leasts chosen contexts places (i / 5) (i % 5)
+  pub word-of-five : (i : ℕ) → i < 5 * n → word i ≡ fiveWord leasts chosen contexts leads (i / 5) (i % 5)
   word-of-five i h = rw (lt-ltb i (5 * n) h)
 
   pub word-of-total : (i : ℕ) → 5 * n ≤ i → word i ≡ getD totals (i - 5 * n) 0
@@ -38,7 +38,7 @@ module _ (n : ℕ) (leasts chosen contexts places totals : List ℕ) where
   -- so many words
   module _ (rules : ℕ) where
     abbrev pub tableWords : List ℕ
-    tableWords = tabulate (tableWord n leasts chosen contexts places totals) (5 * n + rules)
+    tableWords = tabulate (tableWord n leasts chosen contexts leads totals) (5 * n + rules)
 
     pub table-length : length tableWords ≡ 5 * n + rules
     table-length = length-tabulate word (5 * n + rules)
@@ -47,7 +47,7 @@ module _ (n : ℕ) (leasts chosen contexts places totals : List ℕ) where
     pub at-index : (i : ℕ) → i < 5 * n + rules → getD tableWords i 0 ≡ word i
     at-index i h = getD-tabulate word (5 * n + rules) i h
 
-    pub at-five : (A j : ℕ) → A < n → j < 5 → getD tableWords (5 * A + j) 0 ≡ fiveWord leasts chosen contexts places A j
+    pub at-five : (A j : ℕ) → A < n → j < 5 → getD tableWords (5 * A + j) 0 ≡ fiveWord leasts chosen contexts leads A j
     at-five A j lt l =
         let e : (5 * A + j) / 5 ≡ A = omega arith in
         let e′ : (5 * A + j) % 5 ≡ j = omega arith in
@@ -61,7 +61,7 @@ module _ (n : ℕ) (leasts chosen contexts places totals : List ℕ) where
     -- written one after the other into a buffer
     module _ (before : List ℕ) where
       abbrev pub written : ℕ → List ℕ
-      written i = writtenTo n leasts chosen contexts places totals rules before i
+      written i = writtenTo n leasts chosen contexts leads totals rules before i
 
       pub store-word : {i j x : ℕ} {xs : List ℕ} → i < 5 * n + rules → 5 * n + rules ≤ length before → j ≡ i + 1 →
           getD tableWords i 0 ≡ x → xs ≡ written i → set xs i x ≡ written j
@@ -69,7 +69,7 @@ module _ (n : ℕ) (leasts chosen contexts places totals : List ℕ) where
           rw (next, ← is, so-far) (store-next tableWords before i (omega (arith, table-length)) (omega arith))
 
       pub store-five : (A : ℕ) {xs ys : List ℕ} → A < n → 5 * n + rules ≤ length before → xs ≡ written (5 * A) →
-          ys ≡ storeFive (fiveWord leasts chosen contexts places A) (5 * A) xs → ys ≡ written (5 * (A + 1))
+          ys ≡ storeFive (fiveWord leasts chosen contexts leads A) (5 * A) xs → ys ≡ written (5 * (A + 1))
       store-five A h room so-far stored =
           let at = at-five A in
           let e : 5 * A + 0 ≡ 5 * A = omega arith in

@@ -44,10 +44,10 @@ none-of : {P : ℕ → Type 0} {n x : ℕ} → First P n x → ((k : ℕ) → ¬
 none-of (none-has none) never = refl
 none-of (first {k = x} l p before) never = absurd (never x p)
 
-module _ (g : Grammar) (ok : InBounds g) (vs us sizes totals chosen places : List ℕ)
+module _ (g : Grammar) (ok : InBounds g) (vs us sizes totals chosen leads : List ℕ)
     (leasts : Leasts plain g (figure vs)) (contexts : Contexts plain g (figure vs) (figure us)) (of-sizes : SizesOf g vs sizes)
     (of-totals : (k A : ℕ) (w : List ℕ) → RuleAt g k A w → getD totals k 0 ≡ figure us A + getD sizes k 0)
-    (of-chosen : ChosenOf g vs sizes chosen (R g)) (of-places : PlacesOf g vs us totals places (32 * R g)) where
+    (of-chosen : ChosenOf g vs sizes chosen (R g)) (of-leads : PlacesOf g vs us totals leads (32 * R g)) where
   abbrev v : ℕ → ℕ
   v A = figure vs A
 
@@ -85,18 +85,18 @@ module _ (g : Grammar) (ok : InBounds g) (vs us sizes totals chosen places : Lis
   place-below {A} {k} {i} (B, w, r, h, e) = omega (arith, rule-number r, holds-few i A r h)
 
   place-of : (A : ℕ) → A < g .N → ¬ (A ≡ g .start) →
-      out.First (Leading g v u A) (contextRule (figure places A)) (contextPlace (figure places A))
+      out.First (Leading g v u A) (contextRule (figure leads A)) (contextPlace (figure leads A))
   place-of A lt d =
       let (k, i, p) = first-place g v u ok leasts contexts A lt d in
-      let f = first-of (of-places A lt) (32 * k + i) (place-below (p .such)) (place-fits (p .such)) in
+      let f = first-of (of-leads A lt) (32 * k + i) (place-below (p .such)) (place-fits (p .such)) in
       let z = f .such in
       let short = holds-few (z .i) A (z .rule) (z .holds) in
       let is = z .is in
       let few = ok .at-most-256 in
       let below = f .below in
-      let some : ¬ (figure places A ≡ 65535) = λ e. omega arith in
-      let k-is : contextRule (figure places A) ≡ z .k = or-some _ _ some ∙ omega arith in
-      let i-is : contextPlace (figure places A) ≡ z .i = or-some _ _ some ∙ omega arith in
+      let some : ¬ (figure leads A ≡ 65535) = λ e. omega arith in
+      let k-is : contextRule (figure leads A) ≡ z .k = or-some _ _ some ∙ omega arith in
+      let i-is : contextPlace (figure leads A) ≡ z .i = or-some _ _ some ∙ omega arith in
       rw (k-is, i-is) (record {
         such = leads z;
         first = λ j h a.
@@ -112,8 +112,8 @@ module _ (g : Grammar) (ok : InBounds g) (vs us sizes totals chosen places : Lis
           go (no n) = inr (omega arith, omega arith)
 
   -- no place is noted for the start
-  start-none : g .start < g .N → figure places (g .start) ≡ 65535
-  start-none lt = none-of (of-places (g .start) lt) never
+  start-none : g .start < g .N → figure leads (g .start) ≡ 65535
+  start-none lt = none-of (of-leads (g .start) lt) never
     where
       never : (q : ℕ) → ¬ PlaceFits g vs us totals (g .start) q
       never q f =
@@ -124,19 +124,19 @@ module _ (g : Grammar) (ok : InBounds g) (vs us sizes totals chosen places : Lis
           omega arith
 
   five : (A j : ℕ) → A < g .N → j < 5 →
-      getD (tableWords (g .N) vs chosen us places totals (R g)) (5 * A + j) 0 ≡ fiveWord vs chosen us places A j
-  five A j = at-five (g .N) vs chosen us places totals (R g) A j
+      getD (tableWords (g .N) vs chosen us leads totals (R g)) (5 * A + j) 0 ≡ fiveWord vs chosen us leads A j
+  five A j = at-five (g .N) vs chosen us leads totals (R g) A j
 
   -- THE TABLE
-  pub table-found : IsTable g (tableWords (g .N) vs chosen us places totals (R g))
+  pub table-found : IsTable g (tableWords (g .N) vs chosen us leads totals (R g))
   table-found =
       worked-out g v u ok leasts contexts (record {
-        long = table-length (g .N) vs chosen us places totals (R g);
+        long = table-length (g .N) vs chosen us leads totals (R g);
         leasts = λ A lt. five A 0 lt (omega arith);
         chosen = λ A lt. rw (five A 1 lt (omega arith)) (chosen-lowest A lt);
         contexts = λ A lt. five A 2 lt (omega arith);
         choices = λ A lt d. rw (five A 3 lt (omega arith), five A 4 lt (omega arith)) (place-of A lt d);
         start-rule = five (g .start) 3 (ok .start-below) (omega arith) ∙ or-none _ _ (start-none (ok .start-below));
         start-place = five (g .start) 4 (ok .start-below) (omega arith) ∙ or-none _ _ (start-none (ok .start-below));
-        totals = λ r A w rule. at-total (g .N) vs chosen us places totals (R g) r (rule-number rule) ∙ total-of rule;
+        totals = λ r A w rule. at-total (g .N) vs chosen us leads totals (R g) r (rule-number rule) ∙ total-of rule;
       })

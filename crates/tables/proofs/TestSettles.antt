@@ -9,10 +9,10 @@ use mathlib.Core.List.{List, List-discrete}
 use lib.ListN.{take}
 use Rattle.answers.specs.Refusals.{broken-layout, no-tree, unreached, oversize}
 use Rattle.grammar.specs.Words.{Grammar, R, layout, faults, Are, InBounds}
-use Rattle.grammar.specs.Judge.{startsOf}
+use Rattle.layout.specs.Judge.{placesOf}
 use Rattle.grammar.specs.Refusals.{Lowest, NoTree, AllTrees, Unreached, AllReached, Oversize, Accepted}
 use Rattle.tables.specs.Table.{IsTable, HasTable, tableLength}
-use Rattle.tables.specs.Promise.{Tested, TestPromise, startsWith, refusedTest, test-4, test-5, test-6, test-7, its, not-its}
+use Rattle.tables.specs.Promise.{Tested, TestPromise, placesWith, refusedTest, test-4, test-5, test-6, test-7, its, not-its}
 use Rattle.tables.specs.declared.TableTest.{TableTest}
 use Rattle.tables.specs.declared.TableTest.the-variants.{Its, NotIts}
 use Rattle.tables.specs.declared.Testing.{Testing}
@@ -61,8 +61,8 @@ module _ (words table : List ℕ) where
   pub test-settles : {r r′ : Testing} → TestPromise words table r → TestPromise words table r′ → r ≡ r′
   test-settles x y =
       let same = answer-settles (x .tested) (y .tested) in
-      let beside = x .stand ∙ ap (λ (a : TableTest). startsWith a (startsOf (layout words))) same ∙ sym (y .stand) in
-      λ i. record { answer = same i; starts = beside i }
+      let beside = x .stand ∙ ap (λ (a : TableTest). placesWith a (placesOf (layout words))) same ∙ sym (y .stand) in
+      λ i. record { answer = same i; places = beside i }
 
   row : {a : TableTest} → OfWords words (λ p. refusedTest (broken-layout p)) Rows a → Tested words table a
   row (fault e) = test-4 e
@@ -85,7 +85,7 @@ module _ (words table : List ℕ) where
   pub test-met : (r : Testing) × TestPromise words table r
   test-met =
       let (a, z) = answer-met in
-      let r : Testing = record { answer = a; starts = startsWith a (startsOf (layout words)) } in
+      let r : Testing = record { answer = a; places = placesWith a (placesOf (layout words)) } in
       (r, record { tested = z; stand = refl })
 
   -- EXACTLY WHEN, of each answer
@@ -109,8 +109,8 @@ module _ (words table : List ℕ) where
   only-not-its (not-its {g = g} e a n) = (g, e, (a, n))
 
   -- beside the answer that it is its own stand the places of the rules
-  pub test-places : {r : Testing} → TestPromise words table r → (n : ℕ) → r .answer ≡ Its n → r .starts ≡ startsOf (layout words)
-  test-places t n e = t .stand ∙ ap (λ (a : TableTest). startsWith a (startsOf (layout words))) e
+  pub test-places : {r : Testing} → TestPromise words table r → (n : ℕ) → r .answer ≡ Its n → r .places ≡ placesOf (layout words)
+  test-places t n e = t .stand ∙ ap (λ (a : TableTest). placesWith a (placesOf (layout words))) e
 
   module _ {a : TableTest} (t : Tested words table a) where
     pub test-broken : (q : ℕ) → (a ≡ refusedTest (broken-layout q)) ↔ (layout words ≡ faults q)

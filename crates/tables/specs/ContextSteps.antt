@@ -9,7 +9,7 @@ use Rattle.grammar.specs.Words.{Grammar, RuleAt}
 use Rattle.grammar.specs.Measure.{plain}
 use Rattle.grammar.specs.Certificates.{Holds, othersSize}
 use Rattle.tables.specs.Figures.{figure, Has, capped, Lowered, LeastsDone, SizesOf, ContextsSound, ContextQuiet}
-use Rattle.grammar.proofs.RulesInView.{View}
+use Rattle.layout.specs.View.{View}
 
 -- Over leasts vs, where the symbols below n are nonterminals and whole is the size of a rule and the context of its left side: a
 -- nonterminal s of the rule lowers its own context to what is left of whole without its least.
@@ -52,7 +52,7 @@ pub record SeenRound (g : Grammar) (vs : List ℕ) (rules : ℕ) (us seen us′ 
   pub still : n ≡ 0 → Stands g vs us seen → (us′ ≡ us) × ((k : ℕ) → k < rules → ContextQuiet g vs us k)
 
 -- what the rounds go by: the words of a grammar, its leasts, and the sizes of its rules by them
-pub record Known (ws starts : List ℕ) (n rules : ℕ) (sizes vs : List ℕ) (g : Grammar) : Type 0 where
-  pub view : View ws starts n rules g
+pub record Known (ws places : List ℕ) (n rules : ℕ) (sizes vs : List ℕ) (g : Grammar) : Type 0 where
+  pub view : View ws places n rules g
   pub done : LeastsDone g vs
   pub sized : SizesOf g vs sizes

@@ -134,4 +134,4 @@ pub record PlaceFits (g : Grammar) (vs us totals : List ℕ) (A q : ℕ) : Type 
   pub same : figure vs A + figure us A ≡ getD totals k 0
 
 abbrev pub PlacesOf : Grammar → List ℕ → List ℕ → List ℕ → List ℕ → ℕ → Type 0
-PlacesOf g vs us totals places n = (A : ℕ) → A < g .N → First (PlaceFits g vs us totals A) n (figure places A)
+PlacesOf g vs us totals leads n = (A : ℕ) → A < g .N → First (PlaceFits g vs us totals A) n (figure leads A)

@@ -8,7 +8,7 @@ use lib.ListN.{length}
 use Rattle.answers.specs.Refusals.{Refusal, number, place, broken-layout, no-tree, unreached, oversize, too-short}
 use Rattle.answers.specs.Buffers.{over}
 use Rattle.grammar.specs.Words.{Grammar, R, layout, reads, faults}
-use Rattle.grammar.specs.Judge.{noStarts, startsOf}
+use Rattle.layout.specs.Judge.{noPlaces, placesOf}
 use Rattle.grammar.specs.Refusals.{Lowest, NoTree, AllTrees, Unreached, AllReached, Oversize, AllFit, Accepted}
 use Rattle.tables.specs.Table.{IsTable, HasTable, tableLength}
 use Rattle.tables.specs.declared.TableAnswer.{TableAnswer}
@@ -55,12 +55,12 @@ pub data Tested (words table : List ℕ) : TableTest → Type 0 where
       Tested words table test.NotIts
 
 -- where the rules stand, with the answer that the table is the grammar's own; with any other 0 throughout
-abbrev pub startsWith : TableTest → List ℕ → List ℕ
-startsWith (test.Its n) starts = starts
-startsWith test.NotIts starts = noStarts
-startsWith (test.Refused k p) starts = noStarts
+abbrev pub placesWith : TableTest → List ℕ → List ℕ
+placesWith (test.Its n) places = places
+placesWith test.NotIts places = noPlaces
+placesWith (test.Refused k p) places = noPlaces
 
 -- the answer, and beside it where the rules stand
 pub record TestPromise (words table : List ℕ) (r : Testing) : Type 0 where
   pub tested : Tested words table (r .answer)
-  pub stand : r .starts ≡ startsWith (r .answer) (startsOf (layout words))
+  pub stand : r .places ≡ placesWith (r .answer) (placesOf (layout words))

@@ -6,12 +6,12 @@ use mathlib.Core.Path.{_≡_}
 use mathlib.Core.List.{List}
 use Rattle.grammar.specs.Words.{Grammar}
 use Rattle.tables.specs.Figures.{Has, LeastsDone, SizesOf, ContextsRest}
-use Rattle.grammar.proofs.RulesInView.{View}
+use Rattle.layout.specs.View.{View}
 
 -- 4 and 5 are passed: every nonterminal has a least, and the rules have their sizes by them
-pub record Grown (ws starts : List ℕ) (n start rules : ℕ) (vs sizes : List ℕ) : Type 0 where
+pub record Grown (ws places : List ℕ) (n start rules : ℕ) (vs sizes : List ℕ) : Type 0 where
   pub grammar : Grammar
-  pub view : View ws starts n rules grammar
+  pub view : View ws places n rules grammar
   pub first : start ≡ grammar .start
   pub leasts : LeastsDone grammar vs
   pub sizes-are : SizesOf grammar vs sizes
@@ -22,9 +22,9 @@ pub record ContextsDone (g : Grammar) (vs us : List ℕ) : Type 0 where
   pub all : (A : ℕ) → A < g .N → Has us A
 
 -- and so is 6
-pub record Placed (ws starts : List ℕ) (n rules : ℕ) (vs sizes us : List ℕ) : Type 0 where
+pub record Placed (ws places : List ℕ) (n rules : ℕ) (vs sizes us : List ℕ) : Type 0 where
   pub grammar : Grammar
-  pub view : View ws starts n rules grammar
+  pub view : View ws places n rules grammar
   pub leasts : LeastsDone grammar vs
   pub sizes-are : SizesOf grammar vs sizes
   pub contexts : ContextsDone grammar vs us

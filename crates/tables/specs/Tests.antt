@@ -11,10 +11,10 @@ use mathlib.Core.List.{List}
 use lib.ListN.{length, getD}
 use Rattle.grammar.specs.Words.{Grammar, RuleAt}
 use Rattle.grammar.specs.Measure.{plain}
-use Rattle.grammar.specs.Rules.{rightAt}
+use Rattle.layout.specs.Rules.{rightAt}
 use Rattle.grammar.specs.Certificates.{wordSize, Holds}
 use Rattle.tables.specs.Table.{tableLength, entry, totalEntry}
-use Rattle.grammar.proofs.RulesInView.{View}
+use Rattle.layout.specs.View.{View}
 
 -- a test's answer: it holds, or it does not
 abbrev pub Says : Bool → Type 0 → Type 0
@@ -23,7 +23,7 @@ Says false P = ¬ P
 
 -- a test's answer on words that are a grammar
 abbrev pub Answer : List ℕ → List ℕ → ℕ → ℕ → (Grammar → Type 0) → Bool → Type 0
-Answer ws starts n rules P r = (g : Grammar) → View ws starts n rules g → Says r (P g)
+Answer ws places n rules P r = (g : Grammar) → View ws places n rules g → Says r (P g)
 
 -- The symbol B at place i of rule k, whose total is t: v B + u B is at most t, and where it is t the context rule and place of B
 -- do not come after k and i.

@@ -5,15 +5,15 @@ ghost use Prim.Native.Nat.{_≤_, _<_};
 ghost use lib.ListN.{length};
 ghost use Rattle.grammar.specs.Words.{Grammar};
 ghost use Rattle.tables.specs.Figures.{Fallen, Turn, LeastsSound};
-ghost use Rattle.grammar.proofs.RulesInView.{View};
+ghost use Rattle.layout.specs.View.{View};
 ghost use Rattle.tables.specs.LeastSteps.{QuietIfSound};
 ghost use Rattle.tables.specs.ContextSteps.{Known, Stands, SeenTurn};
 use crate::contexts::context_of_rule;
 use crate::figures::NONE;
 use crate::figures::figure_at;
 use crate::leasts::lower_least;
-use grammar::rules;
-use grammar::words::word;
+use layout::rules;
+use layout::words::word;
 
 // The most symbols of a rule that is taken for a link of a chain.
 const FEW: usize = 4;
@@ -42,23 +42,23 @@ fn note_symbols(notes: &mut [u16], symbols: &[u16], rule: usize) {
 }
 
 // Notes for each nonterminal a short rule that names it.
-pub fn note_users(words: &[u16], starts: &[u16; 256], rules: usize, users: &mut [u16])
+pub fn note_users(words: &[u16], places: &[u16; 256], rules: usize, users: &mut [u16])
     requires { ⌜ rules ≤ 256 ⌝ }
 {
     let mut r = 0;
     while r < rules {
-        note_symbols(users, rules::right(words, rules::index(starts, r)), r);
+        note_symbols(users, rules::right(words, rules::index(places, r)), r);
         r += 1;
     }
 }
 
 // Notes for each nonterminal a rule of it.
-pub fn note_rules(words: &[u16], starts: &[u16; 256], rules: usize, owned: &mut [u16])
+pub fn note_rules(words: &[u16], places: &[u16; 256], rules: usize, owned: &mut [u16])
     requires { ⌜ rules ≤ 256 ⌝ }
 {
     let mut r = 0;
     while r < rules {
-        note(owned, word(words, rules::index(starts, r)), r);
+        note(owned, word(words, rules::index(places, r)), r);
         r += 1;
     }
 }
@@ -84,7 +84,7 @@ fn link(symbols: &[u16], n: usize) -> usize {
 // Tries a rule, and where the least of its left side falls, the rule noted for that, and so on.
 fn follow_least(
     words: &[u16],
-    starts: &[u16; 256],
+    places: &[u16; 256],
     n: usize,
     rules: usize,
     users: &[u16],
@@ -92,14 +92,14 @@ fn follow_least(
     leasts: &mut [u16],
 )
     requires { ⌜ (rules ≤ 256) × (128 ≤ length (now leasts)) ⌝ }
-    requires { ⌜ ((g : Grammar) × View (now words) (now starts) n rules g) ⌝ }
+    requires { ⌜ ((g : Grammar) × View (now words) (now places) n rules g) ⌝ }
     ensures { λ _. ⌜ Fallen (now (leasts .entry)) (now (leasts .exit)) 0 ⌝ }
-    ensures { λ _. ⌜ ((g : Grammar) → View (now (words .entry)) (now (starts .entry)) n rules g →
+    ensures { λ _. ⌜ ((g : Grammar) → View (now (words .entry)) (now (places .entry)) n rules g →
         LeastsSound g (now (leasts .entry)) → LeastsSound g (now (leasts .exit))) ⌝ }
 {
     let mut r = from;
     while r < rules {
-        let at = rules::index(starts, r);
+        let at = rules::index(places, r);
         let left = word(words, at);
         if lower_least(left, rules::right(words, at), n, leasts) == 0 {
             return;
@@ -111,7 +111,7 @@ fn follow_least(
 // The turn of a rule, and what follows it: 1 where the least of its left side fell, else 0.
 pub fn least_turn(
     words: &[u16],
-    starts: &[u16; 256],
+    places: &[u16; 256],
     n: usize,
     rules: usize,
     users: &[u16],
@@ -119,19 +119,19 @@ pub fn least_turn(
     leasts: &mut [u16],
 ) -> usize
     requires { ⌜ (rules ≤ 256) × ((r < rules) × (128 ≤ length (now leasts))) ⌝ }
-    requires { ⌜ ((g : Grammar) × View (now words) (now starts) n rules g) ⌝ }
+    requires { ⌜ ((g : Grammar) × View (now words) (now places) n rules g) ⌝ }
     ensures { λ fell. ⌜ (fell ≤ 1) × Fallen (now (leasts .entry)) (now (leasts .exit)) fell ⌝ }
-    ensures { λ fell. ⌜ ((g : Grammar) → View (now (words .entry)) (now (starts .entry)) n rules g →
+    ensures { λ fell. ⌜ ((g : Grammar) → View (now (words .entry)) (now (places .entry)) n rules g →
         Turn (LeastsSound g) (QuietIfSound g) r (now (leasts .entry)) (now (leasts .exit)) fell) ⌝ }
 {
-    let at = rules::index(starts, r);
+    let at = rules::index(places, r);
     let left = word(words, at);
     if lower_least(left, rules::right(words, at), n, leasts) == 0 {
         return 0;
     }
     follow_least(
         words,
-        starts,
+        places,
         n,
         rules,
         users,
@@ -144,7 +144,7 @@ pub fn least_turn(
 // Tries a rule, and where a context falls, the rule noted for the last of its symbols, and so on.
 fn follow_context(
     words: &[u16],
-    starts: &[u16; 256],
+    places: &[u16; 256],
     n: usize,
     rules: usize,
     sizes: &[u32; 256],
@@ -155,16 +155,16 @@ fn follow_context(
     contexts: &mut [u16],
 )
     requires { ⌜ (rules ≤ 256) × ((256 ≤ length (now seen)) × (128 ≤ length (now contexts))) ⌝ }
-    requires { ⌜ ((g : Grammar) × Known (now words) (now starts) n rules (now sizes) (now leasts) g) ⌝ }
+    requires { ⌜ ((g : Grammar) × Known (now words) (now places) n rules (now sizes) (now leasts) g) ⌝ }
     ensures { λ _. ⌜ Fallen (now (contexts .entry)) (now (contexts .exit)) 0 ⌝ }
     ensures { λ _. ⌜ ((g : Grammar) →
-        Known (now (words .entry)) (now (starts .entry)) n rules (now (sizes .entry)) (now (leasts .entry)) g →
+        Known (now (words .entry)) (now (places .entry)) n rules (now (sizes .entry)) (now (leasts .entry)) g →
         Stands g (now (leasts .entry)) (now (contexts .entry)) (now (seen .entry)) →
         Stands g (now (leasts .entry)) (now (contexts .exit)) (now (seen .exit))) ⌝ }
 {
     let mut r = from;
     while r < rules {
-        let at = rules::index(starts, r);
+        let at = rules::index(places, r);
         let symbols = rules::right(words, at);
         let left = word(words, at);
         let fell = context_of_rule(left, symbols, n, sizes[r], r, seen, leasts, contexts);
@@ -178,7 +178,7 @@ fn follow_context(
 // The turn of a rule, and what follows it: 1 where a context fell, else 0.
 pub fn context_turn(
     words: &[u16],
-    starts: &[u16; 256],
+    places: &[u16; 256],
     n: usize,
     rules: usize,
     sizes: &[u32; 256],
@@ -189,14 +189,14 @@ pub fn context_turn(
     contexts: &mut [u16],
 ) -> usize
     requires { ⌜ (rules ≤ 256) × ((r < rules) × ((256 ≤ length (now seen)) × (128 ≤ length (now contexts)))) ⌝ }
-    requires { ⌜ ((g : Grammar) × Known (now words) (now starts) n rules (now sizes) (now leasts) g) ⌝ }
+    requires { ⌜ ((g : Grammar) × Known (now words) (now places) n rules (now sizes) (now leasts) g) ⌝ }
     ensures { λ fell. ⌜ (fell ≤ 1) × Fallen (now (contexts .entry)) (now (contexts .exit)) fell ⌝ }
     ensures { λ fell. ⌜ ((g : Grammar) →
-        Known (now (words .entry)) (now (starts .entry)) n rules (now (sizes .entry)) (now (leasts .entry)) g →
+        Known (now (words .entry)) (now (places .entry)) n rules (now (sizes .entry)) (now (leasts .entry)) g →
         SeenTurn g (now (leasts .entry)) r (now (contexts .entry)) (now (seen .entry))
         (now (contexts .exit)) (now (seen .exit)) fell) ⌝ }
 {
-    let at = rules::index(starts, r);
+    let at = rules::index(places, r);
     let symbols = rules::right(words, at);
     let left = word(words, at);
     let fell = context_of_rule(left, symbols, n, sizes[r], r, seen, leasts, contexts);
@@ -206,7 +206,7 @@ pub fn context_turn(
     let next = figure_at(owned, link(symbols, n));
     follow_context(
         words,
-        starts,
+        places,
         n,
         rules,
         sizes,

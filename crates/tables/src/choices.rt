@@ -4,12 +4,12 @@ ghost use Prim.Native.Nat.{ℕ, _+_, _*_, _≤_, _<_};
 ghost use lib.ListN.{length};
 ghost use Rattle.grammar.specs.Words.{Grammar};
 ghost use Rattle.tables.specs.Figures.{figure, Empty, ChosenOf, PlacesOf};
-ghost use Rattle.grammar.proofs.RulesInView.{View};
+ghost use Rattle.layout.specs.View.{View};
 ghost use Rattle.tables.specs.Noted.{Noted, NotedWhere, PlacesNoted};
 use crate::figures::NONE;
 use crate::figures::figure_at;
-use grammar::rules;
-use grammar::words::word;
+use layout::rules;
+use layout::words::word;
 
 // Notes a number at a nonterminal that has none yet.
 fn note(numbers: &mut [u16], a: usize, number: u16)
@@ -34,20 +34,20 @@ fn choose_rule(left: usize, size: u32, r: u16, leasts: &[u16], chosen: &mut [u16
 // The first rule of each nonterminal whose size is its least.
 pub fn choose_rules(
     words: &[u16],
-    starts: &[u16; 256],
+    places: &[u16; 256],
     rules: usize,
     leasts: &[u16],
     sizes: &[u32; 256],
     chosen: &mut [u16],
 )
     requires { ⌜ rules ≤ 256 ⌝ }
-    ensures { λ _. ⌜ ((g : Grammar) (n : ℕ) → View (now (words .entry)) (now (starts .entry)) n rules g →
+    ensures { λ _. ⌜ ((g : Grammar) (n : ℕ) → View (now (words .entry)) (now (places .entry)) n rules g →
         Empty (now (chosen .entry)) →
         ChosenOf g (now (leasts .entry)) (now (sizes .entry)) (now (chosen .exit)) rules) ⌝ }
 {
     let mut r = 0;
     while r < rules {
-        let at = rules::index(starts, r);
+        let at = rules::index(places, r);
         choose_rule(word(words, at), sizes[r], r as u16, leasts, chosen);
         r += 1;
     }
@@ -62,16 +62,16 @@ fn choose_place(
     total: u16,
     leasts: &[u16],
     contexts: &[u16],
-    places: &mut [u16],
+    leads: &mut [u16],
 )
-    requires { ⌜ (n ≤ length (now leasts)) × ((n ≤ length (now contexts)) × (n ≤ length (now places))) ⌝ }
+    requires { ⌜ (n ≤ length (now leasts)) × ((n ≤ length (now contexts)) × (n ≤ length (now leads))) ⌝ }
     ensures { λ _. ⌜ NotedWhere ((s < n) × (figure (now (leasts .entry)) s + figure (now (contexts .entry)) s ≡ total))
-        (now (places .entry)) s place (now (places .exit)) ⌝ }
+        (now (leads .entry)) s place (now (leads .exit)) ⌝ }
 {
     if s < n {
         if (leasts[s] as usize) + (contexts[s] as usize) == total as usize {
-            if places[s] == NONE {
-                places[s] = place;
+            if leads[s] == NONE {
+                leads[s] = place;
             }
         }
     }
@@ -85,12 +85,12 @@ fn choose_places_of(
     total: u16,
     leasts: &[u16],
     contexts: &[u16],
-    places: &mut [u16],
+    leads: &mut [u16],
 )
     requires { ⌜ (length (now symbols) ≤ 32) × (r < 256) ⌝ }
-    requires { ⌜ (n ≤ length (now leasts)) × ((n ≤ length (now contexts)) × (n ≤ length (now places))) ⌝ }
+    requires { ⌜ (n ≤ length (now leasts)) × ((n ≤ length (now contexts)) × (n ≤ length (now leads))) ⌝ }
     ensures { λ _. ⌜ PlacesNoted (now (symbols .entry)) n r total
-        (now (leasts .entry)) (now (contexts .entry)) (now (places .entry)) (now (places .exit)) ⌝ }
+        (now (leasts .entry)) (now (contexts .entry)) (now (leads .entry)) (now (leads .exit)) ⌝ }
 {
     let mut i = 0;
     while i < symbols.len() {
@@ -101,7 +101,7 @@ fn choose_places_of(
             total,
             leasts,
             contexts,
-            places,
+            leads,
         );
         i += 1;
     }
@@ -110,31 +110,31 @@ fn choose_places_of(
 // The first rule and place of each nonterminal that give its context, as one number.
 pub fn choose_places(
     words: &[u16],
-    starts: &[u16; 256],
+    places: &[u16; 256],
     n: usize,
     rules: usize,
     leasts: &[u16],
     contexts: &[u16],
     totals: &[u16; 256],
-    places: &mut [u16],
+    leads: &mut [u16],
 )
     requires { ⌜ rules ≤ 256 ⌝ }
-    requires { ⌜ (n ≤ length (now leasts)) × ((n ≤ length (now contexts)) × (n ≤ length (now places))) ⌝ }
-    requires { ⌜ ((g : Grammar) × View (now words) (now starts) n rules g) ⌝ }
-    ensures { λ _. ⌜ ((g : Grammar) → View (now (words .entry)) (now (starts .entry)) n rules g →
-        Empty (now (places .entry)) →
-        PlacesOf g (now (leasts .entry)) (now (contexts .entry)) (now (totals .entry)) (now (places .exit)) (32 * rules)) ⌝ }
+    requires { ⌜ (n ≤ length (now leasts)) × ((n ≤ length (now contexts)) × (n ≤ length (now leads))) ⌝ }
+    requires { ⌜ ((g : Grammar) × View (now words) (now places) n rules g) ⌝ }
+    ensures { λ _. ⌜ ((g : Grammar) → View (now (words .entry)) (now (places .entry)) n rules g →
+        Empty (now (leads .entry)) →
+        PlacesOf g (now (leasts .entry)) (now (contexts .entry)) (now (totals .entry)) (now (leads .exit)) (32 * rules)) ⌝ }
 {
     let mut r = 0;
     while r < rules {
         choose_places_of(
-            rules::right(words, rules::index(starts, r)),
+            rules::right(words, rules::index(places, r)),
             n,
             r,
             totals[r],
             leasts,
             contexts,
-            places,
+            leads,
         );
         r += 1;
     }

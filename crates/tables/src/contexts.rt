@@ -5,7 +5,7 @@ ghost use Prim.Native.Nat.{ℕ, _≤_, _<_};
 ghost use lib.ListN.{length};
 ghost use Rattle.grammar.specs.Words.{Grammar};
 ghost use Rattle.tables.specs.Figures.{Fallen, SizesOf, LeastsDone};
-ghost use Rattle.grammar.proofs.RulesInView.{View};
+ghost use Rattle.layout.specs.View.{View};
 ghost use Rattle.tables.specs.Figures.{ContextsSound, ContextsRest, TotalsOf};
 ghost use Rattle.tables.specs.ContextSteps.{PlaceStep, PlacesStep, ContextStep, SeenRound, Known};
 use crate::chains::context_turn;
@@ -14,8 +14,8 @@ use crate::figures::NONE;
 use crate::figures::cap;
 use crate::figures::figure_at;
 use crate::figures::in_turn;
-use grammar::rules;
-use grammar::words::word;
+use layout::rules;
+use layout::words::word;
 
 // A rule's size, to add to: a cast in a function of its own asks its callers for no proof.
 fn widened(size: u32) -> usize
@@ -100,7 +100,7 @@ pub fn context_of_rule(
 // A round over all rules, from the first to the last or back; how many figures fell.
 fn context_round(
     words: &[u16],
-    starts: &[u16; 256],
+    places: &[u16; 256],
     n: usize,
     rules: usize,
     sizes: &[u32; 256],
@@ -111,10 +111,10 @@ fn context_round(
     contexts: &mut [u16],
 ) -> usize
     requires { ⌜ (rules ≤ 256) × ((256 ≤ length (now seen)) × (128 ≤ length (now contexts))) ⌝ }
-    requires { ⌜ ((g : Grammar) × Known (now words) (now starts) n rules (now sizes) (now leasts) g) ⌝ }
+    requires { ⌜ ((g : Grammar) × Known (now words) (now places) n rules (now sizes) (now leasts) g) ⌝ }
     ensures { λ r. ⌜ Fallen (now (contexts .entry)) (now (contexts .exit)) r ⌝ }
     ensures { λ r. ⌜ ((g : Grammar) →
-        Known (now (words .entry)) (now (starts .entry)) n rules (now (sizes .entry)) (now (leasts .entry)) g →
+        Known (now (words .entry)) (now (places .entry)) n rules (now (sizes .entry)) (now (leasts .entry)) g →
         SeenRound g (now (leasts .entry)) rules (now (contexts .entry)) (now (seen .entry))
         (now (contexts .exit)) (now (seen .exit)) r) ⌝ }
 {
@@ -124,7 +124,7 @@ fn context_round(
         let r = in_turn(i, rules, up);
         fell += context_turn(
             words,
-            starts,
+            places,
             n,
             rules,
             sizes,
@@ -142,7 +142,7 @@ fn context_round(
 // Rounds up and down in turn until one changes nothing.
 pub fn context_rounds(
     words: &[u16],
-    starts: &[u16; 256],
+    places: &[u16; 256],
     n: usize,
     rules: usize,
     sizes: &[u32; 256],
@@ -150,20 +150,20 @@ pub fn context_rounds(
     contexts: &mut [u16],
 )
     requires { ⌜ (rules ≤ 256) × (128 ≤ length (now contexts)) ⌝ }
-    requires { ⌜ ((g : Grammar) × Known (now words) (now starts) n rules (now sizes) (now leasts) g) ⌝ }
-    ensures { λ _. ⌜ ((g : Grammar) → View (now (words .entry)) (now (starts .entry)) n rules g →
+    requires { ⌜ ((g : Grammar) × Known (now words) (now places) n rules (now sizes) (now leasts) g) ⌝ }
+    ensures { λ _. ⌜ ((g : Grammar) → View (now (words .entry)) (now (places .entry)) n rules g →
         LeastsDone g (now (leasts .entry)) → SizesOf g (now (leasts .entry)) (now (sizes .entry)) →
         ContextsSound g (now (contexts .entry)) → ContextsRest g (now (leasts .entry)) (now (contexts .exit))) ⌝ }
 {
     let mut owned = [NONE; 128];
-    note_rules(words, starts, rules, &mut owned);
+    note_rules(words, places, rules, &mut owned);
     let mut seen = [NONE; 256];
     let mut fell = 1;
     let mut up = true;
     while 0 < fell {
         fell = context_round(
             words,
-            starts,
+            places,
             n,
             rules,
             sizes,
@@ -180,19 +180,19 @@ pub fn context_rounds(
 // The total of each rule, cut at 4,097.
 pub fn rule_totals(
     words: &[u16],
-    starts: &[u16; 256],
+    places: &[u16; 256],
     rules: usize,
     sizes: &[u32; 256],
     contexts: &[u16],
     totals: &mut [u16],
 )
     requires { ⌜ (rules ≤ 256) × (256 ≤ length (now totals)) ⌝ }
-    ensures { λ _. ⌜ ((g : Grammar) (n : ℕ) → View (now (words .entry)) (now (starts .entry)) n rules g →
+    ensures { λ _. ⌜ ((g : Grammar) (n : ℕ) → View (now (words .entry)) (now (places .entry)) n rules g →
         TotalsOf g (now (contexts .entry)) (now (sizes .entry)) (now (totals .exit))) ⌝ }
 {
     let mut r = 0;
     while r < rules {
-        let left = word(words, rules::index(starts, r));
+        let left = word(words, rules::index(places, r));
         totals[r] = cap(figure_at(contexts, left) + widened(sizes[r]));
         r += 1;
     }

@@ -3,7 +3,7 @@ ghost use Prim.Native.Nat.{_≤_, _<_};
 ghost use lib.ListN.{length};
 ghost use Rattle.grammar.specs.Words.{Grammar};
 ghost use Rattle.tables.specs.Figures.{Fallen, Round, LeastsSound};
-ghost use Rattle.grammar.proofs.RulesInView.{View};
+ghost use Rattle.layout.specs.View.{View};
 ghost use Rattle.tables.specs.LeastSteps.{QuietIfSound, Sized, LeastStep, SizeStep, Rounded, Settled, LeastsSized};
 use crate::chains::least_turn;
 use crate::chains::note_users;
@@ -11,7 +11,7 @@ use crate::figures::NONE;
 use crate::figures::cap;
 use crate::figures::in_turn;
 use crate::figures::lower;
-use grammar::rules;
+use layout::rules;
 
 // What a rule comes to by the leasts so far: a size, or none where a symbol of it has none yet.
 pub enum Size {
@@ -60,7 +60,7 @@ pub fn lower_least(left: usize, symbols: &[u16], n: usize, leasts: &mut [u16]) -
 // A round over all rules, from the first to the last or back; how many figures fell.
 fn least_round(
     words: &[u16],
-    starts: &[u16; 256],
+    places: &[u16; 256],
     n: usize,
     rules: usize,
     users: &[u16],
@@ -68,16 +68,16 @@ fn least_round(
     leasts: &mut [u16],
 ) -> usize
     requires { ⌜ (rules ≤ 256) × (128 ≤ length (now leasts)) ⌝ }
-    requires { ⌜ ((g : Grammar) × View (now words) (now starts) n rules g) ⌝ }
+    requires { ⌜ ((g : Grammar) × View (now words) (now places) n rules g) ⌝ }
     ensures { λ r. ⌜ Fallen (now (leasts .entry)) (now (leasts .exit)) r ⌝ }
-    ensures { λ r. ⌜ ((g : Grammar) → View (now (words .entry)) (now (starts .entry)) n rules g →
+    ensures { λ r. ⌜ ((g : Grammar) → View (now (words .entry)) (now (places .entry)) n rules g →
         Round (LeastsSound g) (QuietIfSound g) rules (now (leasts .entry)) (now (leasts .exit)) r) ⌝ }
 {
     let mut fell = 0;
     let mut i = 0;
     while i < rules {
         let r = in_turn(i, rules, up);
-        fell += least_turn(words, starts, n, rules, users, r, leasts);
+        fell += least_turn(words, places, n, rules, users, r, leasts);
         i += 1;
     }
     fell
@@ -86,7 +86,7 @@ fn least_round(
 // Rounds up and down in turn, after one down in which so many figures fell, until one changes nothing.
 fn more_rounds(
     words: &[u16],
-    starts: &[u16; 256],
+    places: &[u16; 256],
     n: usize,
     rules: usize,
     users: &[u16],
@@ -94,14 +94,14 @@ fn more_rounds(
     leasts: &mut [u16],
 )
     requires { ⌜ (rules ≤ 256) × (128 ≤ length (now leasts)) ⌝ }
-    requires { ⌜ ((g : Grammar) × View (now words) (now starts) n rules g) ⌝ }
-    ensures { λ _. ⌜ ((g : Grammar) → View (now (words .entry)) (now (starts .entry)) n rules g →
+    requires { ⌜ ((g : Grammar) × View (now words) (now places) n rules g) ⌝ }
+    ensures { λ _. ⌜ ((g : Grammar) → View (now (words .entry)) (now (places .entry)) n rules g →
         Rounded g rules (now (leasts .entry)) first → Rounded g rules (now (leasts .exit)) 0) ⌝ }
 {
     let mut fell = first;
     let mut up = true;
     while 0 < fell {
-        fell = least_round(words, starts, n, rules, users, up, leasts);
+        fell = least_round(words, places, n, rules, users, up, leasts);
         up = !up;
     }
 }
@@ -134,20 +134,20 @@ fn size_settles(
 // The size of each rule by the leasts; whether none is below the least of its left side.
 fn sizes_settle(
     words: &[u16],
-    starts: &[u16; 256],
+    places: &[u16; 256],
     n: usize,
     rules: usize,
     leasts: &[u16],
     sizes: &mut [u32],
 ) -> bool
     requires { ⌜ (rules ≤ 256) × (128 ≤ length (now leasts)) × (256 ≤ length (now sizes)) ⌝ }
-    requires { ⌜ ((g : Grammar) × View (now words) (now starts) n rules g) ⌝ }
-    ensures { λ b. ⌜ ((g : Grammar) → View (now (words .entry)) (now (starts .entry)) n rules g →
+    requires { ⌜ ((g : Grammar) × View (now words) (now places) n rules g) ⌝ }
+    ensures { λ b. ⌜ ((g : Grammar) → View (now (words .entry)) (now (places .entry)) n rules g →
         Settled g (now (leasts .entry)) (now (sizes .exit)) rules b) ⌝ }
 {
     let mut r = 0;
     while r < rules {
-        let at = rules::index(starts, r);
+        let at = rules::index(places, r);
         if !size_settles(
             words[at] as usize,
             rules::right(words, at),
@@ -167,23 +167,23 @@ fn sizes_settle(
 // and there is no second.
 pub fn least_rounds(
     words: &[u16],
-    starts: &[u16; 256],
+    places: &[u16; 256],
     n: usize,
     rules: usize,
     leasts: &mut [u16],
     sizes: &mut [u32],
 )
     requires { ⌜ (rules ≤ 256) × (128 ≤ length (now leasts)) × (256 ≤ length (now sizes)) ⌝ }
-    requires { ⌜ ((g : Grammar) × View (now words) (now starts) n rules g) ⌝ }
-    ensures { λ _. ⌜ ((g : Grammar) → View (now (words .entry)) (now (starts .entry)) n rules g →
+    requires { ⌜ ((g : Grammar) × View (now words) (now places) n rules g) ⌝ }
+    ensures { λ _. ⌜ ((g : Grammar) → View (now (words .entry)) (now (places .entry)) n rules g →
         LeastsSound g (now (leasts .entry)) → LeastsSized g (now (leasts .exit)) (now (sizes .exit))) ⌝ }
 {
     let mut users = [NONE; 128];
-    note_users(words, starts, rules, &mut users);
-    let fell = least_round(words, starts, n, rules, &users, false, leasts);
-    if sizes_settle(words, starts, n, rules, leasts, sizes) {
+    note_users(words, places, rules, &mut users);
+    let fell = least_round(words, places, n, rules, &users, false, leasts);
+    if sizes_settle(words, places, n, rules, leasts, sizes) {
         return;
     }
-    more_rounds(words, starts, n, rules, &users, fell, leasts);
-    sizes_settle(words, starts, n, rules, leasts, sizes);
+    more_rounds(words, places, n, rules, &users, fell, leasts);
+    sizes_settle(words, places, n, rules, leasts, sizes);
 }

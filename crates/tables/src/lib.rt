@@ -11,10 +11,10 @@ mod worked_out;
 mod written;
 
 ghost use mathlib.Core.Path.{_≡_};
-ghost use Rattle.tables.specs.Promise.{Tables, Tested, startsWith, TestPromise};
-ghost use Rattle.grammar.proofs.RulesInView.{Begun};
-use grammar::layout;
-use grammar::layout::LayoutAnswer;
+ghost use Rattle.tables.specs.Promise.{Tables, Tested, placesWith, TestPromise};
+ghost use Rattle.layout.specs.View.{Begun};
+use layout::judge;
+use layout::judge::LayoutAnswer;
 
 // What `tables` answers: the number of words written, or the refusal's number and place.
 pub enum TableAnswer {
@@ -34,14 +34,14 @@ pub enum TableTest {
 // and 0 past the rules. With any other answer all are 0.
 pub struct Testing {
     pub answer: TableTest,
-    pub starts: [u16; 256],
+    pub places: [u16; 256],
 }
 
 // Writes the table of the grammar that the words are into the front of table. Done carries how many words were written.
 pub fn tables(words: &[u16], table: &mut [u16]) -> TableAnswer
     ensures { λ r. ⌜ Tables (now (words .entry)) (now (table .entry)) r (now (table .exit)) ⌝ }
 {
-    let reading = layout::read(words);
+    let reading = judge::read(words);
     let answer = reading.answer;
     match answer {
         LayoutAnswer::Fault { place } => TableAnswer::Refused {
@@ -53,7 +53,7 @@ pub fn tables(words: &[u16], table: &mut [u16]) -> TableAnswer
             terminals: _,
             start,
             rules,
-        } => worked_out::of_grammar(words, &reading.starts, nonterminals, start, rules, table),
+        } => worked_out::of_grammar(words, &reading.places, nonterminals, start, rules, table),
     }
 }
 
@@ -61,7 +61,7 @@ pub fn tables(words: &[u16], table: &mut [u16]) -> TableAnswer
 pub fn test(words: &[u16], table: &[u16]) -> Testing
     ensures { λ r. ⌜ TestPromise (now (words .entry)) (now (table .entry)) r ⌝ }
 {
-    let reading = layout::read(words);
+    let reading = judge::read(words);
     let answer = reading.answer;
     match answer {
         LayoutAnswer::Fault { place } => {
@@ -70,7 +70,7 @@ pub fn test(words: &[u16], table: &[u16]) -> Testing
                     number: answers::BROKEN_LAYOUT,
                     place,
                 },
-                starts: [0u16; 256],
+                places: [0u16; 256],
             };
         }
         LayoutAnswer::Grammar {
@@ -79,20 +79,20 @@ pub fn test(words: &[u16], table: &[u16]) -> Testing
             start,
             rules,
         } => {
-            let tested = test_grammar(words, &reading.starts, nonterminals, start, rules, table);
-            let starts = reading.starts;
-            return with_starts(tested, starts);
+            let tested = test_grammar(words, &reading.places, nonterminals, start, rules, table);
+            let places = reading.places;
+            return with_starts(tested, places);
         }
     }
 }
 
 // An answer, with where the rules stand if the table is the grammar's own.
-fn with_starts(answer: TableTest, starts: [u16; 256]) -> Testing
-    ensures { λ r. ⌜ (r .answer ≡ answer) × (r .starts ≡ startsWith answer starts) ⌝ }
+fn with_starts(answer: TableTest, places: [u16; 256]) -> Testing
+    ensures { λ r. ⌜ (r .answer ≡ answer) × (r .places ≡ placesWith answer places) ⌝ }
 {
     match answer {
         TableTest::Its { rules: _ } => {
-            return beside(answer, starts);
+            return beside(answer, places);
         }
         TableTest::NotIts => {
             return beside(TableTest::NotIts, [0u16; 256]);
@@ -107,30 +107,30 @@ fn with_starts(answer: TableTest, starts: [u16; 256]) -> Testing
 }
 
 // The two, whatever they are.
-fn beside(answer: TableTest, starts: [u16; 256]) -> Testing
-    ensures { λ r. ⌜ (r .answer ≡ answer) × (r .starts ≡ starts) ⌝ }
+fn beside(answer: TableTest, places: [u16; 256]) -> Testing
+    ensures { λ r. ⌜ (r .answer ≡ answer) × (r .places ≡ places) ⌝ }
 {
-    Testing { answer, starts }
+    Testing { answer, places }
 }
 
 // The answer of words that are a grammar. Only where the table is not its own is one worked out, for 5, 6 and 7, and with no room to
 // write it: 3 says that they are passed.
 fn test_grammar(
     words: &[u16],
-    starts: &[u16; 256],
+    places: &[u16; 256],
     n: usize,
     start: usize,
     rules: usize,
     table: &[u16],
 ) -> TableTest
-    requires { ⌜ Begun (now words) (now starts) n start rules ⌝ }
+    requires { ⌜ Begun (now words) (now places) n start rules ⌝ }
     ensures { λ r. ⌜ Tested (now (words .entry)) (now (table .entry)) r ⌝ }
 {
-    if passes::passes(words, starts, n, start, rules, table) {
+    if passes::passes(words, places, n, start, rules, table) {
         return TableTest::Its { rules };
     }
     let mut none = [0u16; 0];
-    match worked_out::of_grammar(words, starts, n, start, rules, &mut none) {
+    match worked_out::of_grammar(words, places, n, start, rules, &mut none) {
         TableAnswer::Done(_) => TableTest::NotIts,
         TableAnswer::Refused { number, place } => not_its(number, place),
     }

@@ -7,10 +7,10 @@ ghost use lib.ListN.{length, getD};
 ghost use Rattle.grammar.specs.Words.{Grammar};
 ghost use Rattle.grammar.specs.Refusals.{Accepted};
 ghost use Rattle.tables.specs.Table.{HasTable, entry};
-ghost use Rattle.grammar.proofs.RulesInView.{View};
+ghost use Rattle.layout.specs.View.{View};
 ghost use Rattle.tables.specs.Tests.{Says, Answer, PlacePasses, SizePasses, LeftPasses, RuleAnswer, RulesPass};
 ghost use Rattle.tables.specs.Tests.{ChosenPasses, ContextPasses, StartPasses, ChoicePasses, ChoicesPass};
-use grammar::rules;
+use layout::rules;
 
 // The largest total that is accepted.
 const LIMIT: usize = 4096;
@@ -115,16 +115,16 @@ fn rule_passes(
 }
 
 // Whether every rule passes.
-fn rules_pass(words: &[u16], starts: &[u16; 256], n: usize, rules: usize, table: &[u16]) -> bool
+fn rules_pass(words: &[u16], places: &[u16; 256], n: usize, rules: usize, table: &[u16]) -> bool
     requires { ⌜ (n ≤ 128) × (rules ≤ 256) × (5 * n + rules ≤ length (now table)) ⌝ }
-    requires { ⌜ ((g : Grammar) × View (now words) (now starts) n rules g) ⌝ }
-    ensures { λ r. ⌜ Answer (now (words .entry)) (now (starts .entry)) n rules (λ g. RulesPass g (now (table .entry))) r ⌝ }
+    requires { ⌜ ((g : Grammar) × View (now words) (now places) n rules g) ⌝ }
+    ensures { λ r. ⌜ Answer (now (words .entry)) (now (places .entry)) n rules (λ g. RulesPass g (now (table .entry))) r ⌝ }
 {
     let mut r = 0;
     while r < rules {
         if !rule_passes(
             words,
-            rules::index(starts, r),
+            rules::index(places, r),
             n,
             r,
             table[5 * n + r] as usize,
@@ -140,21 +140,21 @@ fn rules_pass(words: &[u16], starts: &[u16; 256], n: usize, rules: usize, table:
 // Whether the chosen rule of a is one of a's, and its total what a's least and context come to.
 fn chosen_passes(
     words: &[u16],
-    starts: &[u16; 256],
+    places: &[u16; 256],
     n: usize,
     rules: usize,
     a: usize,
     table: &[u16],
 ) -> bool
     requires { ⌜ (n ≤ 128) × (rules ≤ 256) × (a < n) × (5 * n + rules ≤ length (now table)) ⌝ }
-    requires { ⌜ ((g : Grammar) × View (now words) (now starts) n rules g) ⌝ }
-    ensures { λ r. ⌜ Answer (now (words .entry)) (now (starts .entry)) n rules (λ g. ChosenPasses g (now (table .entry)) a) r ⌝ }
+    requires { ⌜ ((g : Grammar) × View (now words) (now places) n rules g) ⌝ }
+    ensures { λ r. ⌜ Answer (now (words .entry)) (now (places .entry)) n rules (λ g. ChosenPasses g (now (table .entry)) a) r ⌝ }
 {
     let chosen = five(table, a, CHOSEN);
     if rules <= chosen {
         return false;
     }
-    if words[rules::index(starts, chosen)] as usize != a {
+    if words[rules::index(places, chosen)] as usize != a {
         return false;
     }
     table[5 * n + chosen] as usize == five(table, a, LEAST) + five(table, a, CONTEXT)
@@ -163,20 +163,20 @@ fn chosen_passes(
 // Whether the context rule of a has a at the context place, and its total is what a's least and context come to.
 fn context_passes(
     words: &[u16],
-    starts: &[u16; 256],
+    places: &[u16; 256],
     n: usize,
     rules: usize,
     a: usize,
     table: &[u16],
 ) -> bool
     requires { ⌜ (n ≤ 128) × (rules ≤ 256) × (a < n) × (5 * n + rules ≤ length (now table)) ⌝ }
-    ensures { λ r. ⌜ Answer (now (words .entry)) (now (starts .entry)) n rules (λ g. ContextPasses g (now (table .entry)) a) r ⌝ }
+    ensures { λ r. ⌜ Answer (now (words .entry)) (now (places .entry)) n rules (λ g. ContextPasses g (now (table .entry)) a) r ⌝ }
 {
     let by = five(table, a, RULE);
     if rules <= by {
         return false;
     }
-    let symbols = rules::right(words, rules::index(starts, by));
+    let symbols = rules::right(words, rules::index(places, by));
     let place = five(table, a, PLACE);
     if symbols.len() <= place {
         return false;
@@ -204,7 +204,7 @@ fn start_passes(a: usize, table: &[u16]) -> bool
 // Whether the two choices of a are right.
 fn choice_passes(
     words: &[u16],
-    starts: &[u16; 256],
+    places: &[u16; 256],
     n: usize,
     start: usize,
     rules: usize,
@@ -212,37 +212,37 @@ fn choice_passes(
     table: &[u16],
 ) -> bool
     requires { ⌜ (n ≤ 128) × (rules ≤ 256) × (a < n) × (5 * n + rules ≤ length (now table)) ⌝ }
-    requires { ⌜ ((g : Grammar) × View (now words) (now starts) n rules g) ⌝ }
-    ensures { λ r. ⌜ Answer (now (words .entry)) (now (starts .entry)) n rules
+    requires { ⌜ ((g : Grammar) × View (now words) (now places) n rules g) ⌝ }
+    ensures { λ r. ⌜ Answer (now (words .entry)) (now (places .entry)) n rules
         (λ g. ChoicePasses g start (now (table .entry)) a) r ⌝ }
 {
-    if !chosen_passes(words, starts, n, rules, a, table) {
+    if !chosen_passes(words, places, n, rules, a, table) {
         return false;
     }
     if a == start {
         start_passes(a, table)
     } else {
-        context_passes(words, starts, n, rules, a, table)
+        context_passes(words, places, n, rules, a, table)
     }
 }
 
 // Whether the choices of every nonterminal are right.
 fn choices_pass(
     words: &[u16],
-    starts: &[u16; 256],
+    places: &[u16; 256],
     n: usize,
     start: usize,
     rules: usize,
     table: &[u16],
 ) -> bool
     requires { ⌜ (n ≤ 128) × (rules ≤ 256) × (5 * n + rules ≤ length (now table)) ⌝ }
-    requires { ⌜ ((g : Grammar) × View (now words) (now starts) n rules g) ⌝ }
-    ensures { λ r. ⌜ Answer (now (words .entry)) (now (starts .entry)) n rules
+    requires { ⌜ ((g : Grammar) × View (now words) (now places) n rules g) ⌝ }
+    ensures { λ r. ⌜ Answer (now (words .entry)) (now (places .entry)) n rules
         (λ g. ChoicesPass g start (now (table .entry))) r ⌝ }
 {
     let mut a = 0;
     while a < n {
-        if !choice_passes(words, starts, n, start, rules, a, table) {
+        if !choice_passes(words, places, n, start, rules, a, table) {
             return false;
         }
         a += 1;
@@ -253,22 +253,22 @@ fn choices_pass(
 // Whether a table passes all tests: it is long enough, and its choices and its rules are right.
 pub fn passes(
     words: &[u16],
-    starts: &[u16; 256],
+    places: &[u16; 256],
     n: usize,
     start: usize,
     rules: usize,
     table: &[u16],
 ) -> bool
     requires { ⌜ (n ≤ 128) × (rules ≤ 256) ⌝ }
-    requires { ⌜ ((g : Grammar) × View (now words) (now starts) n rules g) ⌝ }
-    ensures { λ r. ⌜ ((g : Grammar) → View (now (words .entry)) (now (starts .entry)) n rules g → start ≡ g .start →
+    requires { ⌜ ((g : Grammar) × View (now words) (now places) n rules g) ⌝ }
+    ensures { λ r. ⌜ ((g : Grammar) → View (now (words .entry)) (now (places .entry)) n rules g → start ≡ g .start →
         Says r (Accepted g × HasTable g (now (table .entry)))) ⌝ }
 {
     if table.len() < 5 * n + rules {
         return false;
     }
-    if !choices_pass(words, starts, n, start, rules, table) {
+    if !choices_pass(words, places, n, start, rules, table) {
         return false;
     }
-    rules_pass(words, starts, n, rules, table)
+    rules_pass(words, places, n, rules, table)
 }

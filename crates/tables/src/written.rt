@@ -29,16 +29,16 @@ fn write_five(
     leasts: &[u16],
     chosen: &[u16],
     contexts: &[u16],
-    places: &[u16],
+    leads: &[u16],
     table: &mut [u16],
 )
-    requires { ⌜ (a < 128) × Room (a + 1) (now leasts) (now chosen) (now contexts) (now places) ⌝ }
+    requires { ⌜ (a < 128) × Room (a + 1) (now leasts) (now chosen) (now contexts) (now leads) ⌝ }
     requires { ⌜ 5 * a + 5 ≤ length (now table) ⌝ }
     ensures { λ _. ⌜ now (table .exit) ≡ storeFive (fiveWord (now (leasts .entry)) (now (chosen .entry)) (now (contexts .entry))
-        (now (places .entry)) a) (5 * a) (now (table .entry)) ⌝ }
+        (now (leads .entry)) a) (5 * a) (now (table .entry)) ⌝ }
 {
     let at = 5 * a;
-    let number = places[a];
+    let number = leads[a];
     table[at] = leasts[a];
     table[at + 1] = chosen[a];
     table[at + 2] = contexts[a];
@@ -52,18 +52,18 @@ fn write_fives(
     leasts: &[u16],
     chosen: &[u16],
     contexts: &[u16],
-    places: &[u16],
+    leads: &[u16],
     table: &mut [u16],
 )
-    requires { ⌜ (n ≤ 128) × Room n (now leasts) (now chosen) (now contexts) (now places) ⌝ }
+    requires { ⌜ (n ≤ 128) × Room n (now leasts) (now chosen) (now contexts) (now leads) ⌝ }
     requires { ⌜ 5 * n ≤ length (now table) ⌝ }
     ensures { λ _. ⌜ ((totals : List ℕ) (rules : ℕ) → 5 * n + rules ≤ length (now (table .entry)) →
         now (table .exit) ≡ writtenTo n (now (leasts .entry)) (now (chosen .entry)) (now (contexts .entry))
-        (now (places .entry)) totals rules (now (table .entry)) (5 * n)) ⌝ }
+        (now (leads .entry)) totals rules (now (table .entry)) (5 * n)) ⌝ }
 {
     let mut a = 0;
     while a < n {
-        write_five(a, leasts, chosen, contexts, places, table);
+        write_five(a, leasts, chosen, contexts, leads, table);
         a += 1;
     }
 }
@@ -71,9 +71,9 @@ fn write_fives(
 // The totals of so many rules, after them.
 fn write_totals(n: usize, rules: usize, totals: &[u16; 256], table: &mut [u16])
     requires { ⌜ (n ≤ 128) × (rules ≤ 256) × (5 * n + rules ≤ length (now table)) ⌝ }
-    ensures { λ _. ⌜ ((leasts chosen contexts places before : List ℕ) → 5 * n + rules ≤ length before →
-        now (table .entry) ≡ writtenTo n leasts chosen contexts places (now (totals .entry)) rules before (5 * n) →
-        now (table .exit) ≡ writtenTo n leasts chosen contexts places (now (totals .entry)) rules before (5 * n + rules)) ⌝ }
+    ensures { λ _. ⌜ ((leasts chosen contexts leads before : List ℕ) → 5 * n + rules ≤ length before →
+        now (table .entry) ≡ writtenTo n leasts chosen contexts leads (now (totals .entry)) rules before (5 * n) →
+        now (table .exit) ≡ writtenTo n leasts chosen contexts leads (now (totals .entry)) rules before (5 * n + rules)) ⌝ }
 {
     let mut r = 0;
     while r < rules {
@@ -89,15 +89,15 @@ pub fn write(
     leasts: &[u16],
     chosen: &[u16],
     contexts: &[u16],
-    places: &[u16],
+    leads: &[u16],
     totals: &[u16; 256],
     table: &mut [u16],
 )
     requires { ⌜ (n ≤ 128) × (rules ≤ 256) × (5 * n + rules ≤ length (now table)) ⌝ }
-    requires { ⌜ Room n (now leasts) (now chosen) (now contexts) (now places) ⌝ }
+    requires { ⌜ Room n (now leasts) (now chosen) (now contexts) (now leads) ⌝ }
     ensures { λ _. ⌜ now (table .exit) ≡ over (tabulate (tableWord n (now (leasts .entry)) (now (chosen .entry))
-        (now (contexts .entry)) (now (places .entry)) (now (totals .entry))) (5 * n + rules)) (now (table .entry)) ⌝ }
+        (now (contexts .entry)) (now (leads .entry)) (now (totals .entry))) (5 * n + rules)) (now (table .entry)) ⌝ }
 {
-    write_fives(n, leasts, chosen, contexts, places, table);
+    write_fives(n, leasts, chosen, contexts, leads, table);
     write_totals(n, rules, totals, table);
 }

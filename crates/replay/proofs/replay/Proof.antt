@@ -1,6 +1,6 @@
 -- `replay::replay` meets its contract: row 4 is the judge's, and the others are those of a grammar. Assumes nothing.
 use borrow.Author.Needs.{needs}
-use Rattle.grammar.proofs.WordsRead.{broken-of, begun-of}
+use Rattle.layout.proofs.WordsRead.{broken-of, begun-of}
 use Rattle.replay.specs.Replay.{row-4}
 use Rattle.replay.proofs.replay.Statement.{statement}
 use Rattle.replay.proofs.replay.Tie as tie

@@ -1,7 +1,7 @@
 -- `tables::tables` meets its contract: row 4 is the judge's, and the others are those of what is worked out.
 -- Assumes nothing.
 use borrow.Author.Needs.{needs}
-use Rattle.grammar.proofs.WordsRead.{broken-of, begun-of}
+use Rattle.layout.proofs.WordsRead.{broken-of, begun-of}
 use Rattle.tables.specs.Promise.{row-4}
 use Rattle.tables.proofs.tables.Statement.{statement}
 use Rattle.tables.proofs.tables.Tie as tie

@@ -2,7 +2,7 @@
 -- Assumes nothing.
 use mathlib.Core.Path.{refl}
 use borrow.Author.Needs.{needs}
-use Rattle.grammar.proofs.WordsRead.{broken-of, begun-of}
+use Rattle.layout.proofs.WordsRead.{broken-of, begun-of}
 use Rattle.tables.specs.Promise.{test-4}
 use Rattle.tables.proofs.Outcomes.{with-places}
 use Rattle.tables.proofs.test.Statement.{statement}
@@ -33,7 +33,7 @@ returns c =
 returns-2 : tie.Need-returns-2
 returns-2 c =
     let read = c .before .before .before .before .before .before .before .before .read in
-    let w = c .with-starts .ensures in
+    let w = c .with-places .ensures in
     with-places (c .before .before .test-grammar .ensures) (read .ensures .1) (w .0) (w .1)
 
 pub test-spec : {M : Type 1} → statement M

@@ -1,7 +1,7 @@
 -- `tables::test_grammar` meets its contract: the pass over the table answers exactly, and where it is not the grammar's own the
 -- outcome without room says why. Assumes nothing.
 use borrow.Author.Needs.{needs}
-use Rattle.grammar.proofs.WordsRead.{view-few}
+use Rattle.layout.proofs.WordsRead.{view-few}
 use Rattle.tables.proofs.Outcomes.{tests-its, not-own, done-is-not-its, refused-is}
 use Rattle.tables.proofs.test_grammar.Statement.{statement}
 use Rattle.tables.proofs.test_grammar.Tie as tie

@@ -8,7 +8,7 @@ use lib.ListN.{getD}
 use borrow.Author.Needs.{needs}
 use borrow.Fn.Kinds.{In}
 use borrow.Fn.PlainCycle.{Measures, is, falls, and}
-use Rattle.grammar.specs.Walk.{countAt}
+use Rattle.layout.specs.Walk.{countAt}
 use Rattle.tables.specs.Table.{entry}
 use Rattle.handout.specs.Listing.{lengths, sizeBy, sizesBy, rightOf}
 use Rattle.handout.proofs.Listings.{number-low}
@@ -52,11 +52,11 @@ abbrev symbol-calls : ℕ → symbol-lts.Claims
 symbol-calls t = (wide.Asked, wide.Learnt, put.Asked, put.Learnt, rule-below t, rule.Post)
 
 abbrev Inv-loop : rule-lts.InvT-loop
-Inv-loop words starts table n rule past sentence₀ derivation₀ at first end so₀ i₀ sentence derivation so i =
-    RuleTurn words starts table n rule first sentence₀ sentence derivation₀ derivation (lengths so₀) (lengths so) i
+Inv-loop words places table n rule past sentence₀ derivation₀ at first end so₀ i₀ sentence derivation so i =
+    RuleTurn words places table n rule first sentence₀ sentence derivation₀ derivation (lengths so₀) (lengths so) i
 
 abbrev μ-loop : rule-lts.MeasureT-loop
-μ-loop words starts table n rule past sentence₀ derivation₀ at first end so₀ i₀ sentence derivation so i = end - i
+μ-loop words places table n rule past sentence₀ derivation₀ at first end so₀ i₀ sentence derivation so i = end - i
 
 rule-put-requires : (t : ℕ) → rule-lts.Need-put-requires (rule-calls t) (rule-at t) rule.Post Inv-loop μ-loop
 rule-put-requires t c κs = search needs
@@ -83,7 +83,7 @@ rule-add-first t c =
     let start = c .before .before .before .before .before .before .before .before .before .before .before in
     let ready = start .pre .1 in
     let stands = rule-stands (ready .known) (ready .number) in
-    let at = c .wide2 .ensures ∙ ap (λ (k : ℕ). getD (start .args .starts .now) k 0) (c .before .before .wide .ensures) in
+    let at = c .wide2 .ensures ∙ ap (λ (k : ℕ). getD (start .args .places .now) k 0) (c .before .before .wide .ensures) in
     omega (arith, at, stands .few, stands .whole)
 
 rule-add-wide : (t : ℕ) → rule-lts.Need-add-wide (rule-calls t) (rule-at t) rule.Post Inv-loop μ-loop
@@ -91,7 +91,7 @@ rule-add-wide t c =
     let start = c .before .before .before .before .before .before .before .before .before .before .before in
     let ready = start .pre .1 in
     let stands = rule-stands (ready .known) (ready .number) in
-    let at = c .wide2 .ensures ∙ ap (λ (k : ℕ). getD (start .args .starts .now) k 0) (c .before .before .wide .ensures) in
+    let at = c .wide2 .ensures ∙ ap (λ (k : ℕ). getD (start .args .places .now) k 0) (c .before .before .wide .ensures) in
     omega (arith, at, stands .few, stands .whole)
 
 rule-mul-wide-2 : (t : ℕ) → rule-lts.Need-mul-wide-2 (rule-calls t) (rule-at t) rule.Post Inv-loop μ-loop
@@ -99,7 +99,7 @@ rule-mul-wide-2 t c =
     let start = c .before .before .before .before .before .before .before .before .before .before .before in
     let ready = start .pre .1 in
     let stands = rule-stands (ready .known) (ready .number) in
-    let at = c .wide2 .ensures ∙ ap (λ (k : ℕ). getD (start .args .starts .now) k 0) (c .before .before .wide .ensures) in
+    let at = c .wide2 .ensures ∙ ap (λ (k : ℕ). getD (start .args .places .now) k 0) (c .before .before .wide .ensures) in
     omega (arith, at, stands .few, stands .whole)
 
 rule-shared-slice-read-wide : (t : ℕ) →
@@ -108,7 +108,7 @@ rule-shared-slice-read-wide t c =
     let start = c .before .before .before .before .before .before .before .before .before .before .before .before in
     let ready = start .pre .1 in
     let stands = rule-stands (ready .known) (ready .number) in
-    let at = c .before .wide2 .ensures ∙ ap (λ (k : ℕ). getD (start .args .starts .now) k 0) (c .before .before .before .wide .ensures) in
+    let at = c .before .wide2 .ensures ∙ ap (λ (k : ℕ). getD (start .args .places .now) k 0) (c .before .before .before .wide .ensures) in
     omega (arith, at, stands .few, stands .whole)
 
 rule-wide-requires-3 : (t : ℕ) → rule-lts.Need-wide-requires-3 (rule-calls t) (rule-at t) rule.Post Inv-loop μ-loop
@@ -119,7 +119,7 @@ rule-add-end t c =
     let start = c .before .before .before .before .before .before .before .before .before .before .before .before .before in
     let ready = start .pre .1 in
     let stands = rule-stands (ready .known) (ready .number) in
-    let at = c .before .before .wide2 .ensures ∙ ap (λ (k : ℕ). getD (start .args .starts .now) k 0) (c .before .before .before .before .wide .ensures) in
+    let at = c .before .before .wide2 .ensures ∙ ap (λ (k : ℕ). getD (start .args .places .now) k 0) (c .before .before .before .before .wide .ensures) in
     let first = ap (λ (j : ℕ). j + 2) at in
     let count = c .wide3 .ensures ∙ ap (λ (j : ℕ). countAt (start .args .words .now) j) at in
     let end = ap (λ (j : ℕ). c .before .before .wide2 .result + 2 + j) count in
@@ -135,7 +135,7 @@ rule-loop-holds t c =
     let start = c .before .before .before .before .before .before .before .before .before .before .before .before .before in
     let ready = start .pre .1 in
     let stands = rule-stands (ready .known) (ready .number) in
-    let at = c .before .before .wide2 .ensures ∙ ap (λ (k : ℕ). getD (start .args .starts .now) k 0) (c .before .before .before .before .wide .ensures) in
+    let at = c .before .before .wide2 .ensures ∙ ap (λ (k : ℕ). getD (start .args .places .now) k 0) (c .before .before .before .before .wide .ensures) in
     let first = ap (λ (j : ℕ). j + 2) at in
     let count = c .wide3 .ensures ∙ ap (λ (j : ℕ). countAt (start .args .words .now) j) at in
     let end = ap (λ (j : ℕ). c .before .before .wide2 .result + 2 + j) count in
@@ -146,7 +146,7 @@ rule-mul-list-symbol t c =
     let start = c .before .before .before .before .before .before .before .before .before .before .before .before .before .before .before in
     let ready = start .pre .1 in
     let stands = rule-stands (ready .known) (ready .number) in
-    let at = c .before .before .before .before .wide2 .ensures ∙ ap (λ (k : ℕ). getD (start .args .starts .now) k 0) (c .before .before .before .before .before .before .wide .ensures) in
+    let at = c .before .before .before .before .wide2 .ensures ∙ ap (λ (k : ℕ). getD (start .args .places .now) k 0) (c .before .before .before .before .before .before .wide .ensures) in
     let first = ap (λ (j : ℕ). j + 2) at in
     let count = c .before .before .wide3 .ensures ∙ ap (λ (j : ℕ). countAt (start .args .words .now) j) at in
     let end = ap (λ (j : ℕ). c .before .before .before .before .wide2 .result + 2 + j) count in
@@ -158,7 +158,7 @@ rule-shared-slice-read-list-symbol t c =
     let start = c .before .before .before .before .before .before .before .before .before .before .before .before .before .before .before .before in
     let ready = start .pre .1 in
     let stands = rule-stands (ready .known) (ready .number) in
-    let at = c .before .before .before .before .before .wide2 .ensures ∙ ap (λ (k : ℕ). getD (start .args .starts .now) k 0) (c .before .before .before .before .before .before .before .wide .ensures) in
+    let at = c .before .before .before .before .before .wide2 .ensures ∙ ap (λ (k : ℕ). getD (start .args .places .now) k 0) (c .before .before .before .before .before .before .before .wide .ensures) in
     let first = ap (λ (j : ℕ). j + 2) at in
     let count = c .before .before .before .wide3 .ensures ∙ ap (λ (j : ℕ). countAt (start .args .words .now) j) at in
     let end = ap (λ (j : ℕ). c .before .before .before .before .before .wide2 .result + 2 + j) count in
@@ -169,7 +169,7 @@ rule-list-symbol-requires t c κs =
     let start = c .before .before .before .before .before .before .before .before .before .before .before .before .before .before .before .before .before .before in
     let ready = start .pre .1 in
     let stands = rule-stands (ready .known) (ready .number) in
-    let at = c .before .before .before .before .before .before .before .wide2 .ensures ∙ ap (λ (k : ℕ). getD (start .args .starts .now) k 0) (c .before .before .before .before .before .before .before .before .before .wide .ensures) in
+    let at = c .before .before .before .before .before .before .before .wide2 .ensures ∙ ap (λ (k : ℕ). getD (start .args .places .now) k 0) (c .before .before .before .before .before .before .before .before .before .wide .ensures) in
     let first = ap (λ (j : ℕ). j + 2) at in
     let count = c .before .before .before .before .before .wide3 .ensures ∙ ap (λ (j : ℕ). countAt (start .args .words .now) j) at in
     let end = ap (λ (j : ℕ). c .before .before .before .before .before .before .before .wide2 .result + 2 + j) count in
@@ -186,7 +186,7 @@ rule-add-i t c =
     let start = c .before .before .before .before .before .before .before .before .before .before .before .before .before .before .before .before .before .before .before .before .before .before .before in
     let ready = start .pre .1 in
     let stands = rule-stands (ready .known) (ready .number) in
-    let at = c .before .before .before .before .before .before .before .before .before .before .before .before .wide2 .ensures ∙ ap (λ (k : ℕ). getD (start .args .starts .now) k 0) (c .before .before .before .before .before .before .before .before .before .before .before .before .before .before .wide .ensures) in
+    let at = c .before .before .before .before .before .before .before .before .before .before .before .before .wide2 .ensures ∙ ap (λ (k : ℕ). getD (start .args .places .now) k 0) (c .before .before .before .before .before .before .before .before .before .before .before .before .before .before .wide .ensures) in
     let first = ap (λ (j : ℕ). j + 2) at in
     let count = c .before .before .before .before .before .before .before .before .before .before .wide3 .ensures ∙ ap (λ (j : ℕ). countAt (start .args .words .now) j) at in
     let end = ap (λ (j : ℕ). c .before .before .before .before .before .before .before .before .before .before .before .before .wide2 .result + 2 + j) count in
@@ -200,7 +200,7 @@ rule-loop-again t c =
     let start = c .before .before .before .before .before .before .before .before .before .before .before .before .before .before .before .before .before .before .before .before .before .before .before in
     let ready = start .pre .1 in
     let stands = rule-stands (ready .known) (ready .number) in
-    let at = c .before .before .before .before .before .before .before .before .before .before .before .before .wide2 .ensures ∙ ap (λ (k : ℕ). getD (start .args .starts .now) k 0) (c .before .before .before .before .before .before .before .before .before .before .before .before .before .before .wide .ensures) in
+    let at = c .before .before .before .before .before .before .before .before .before .before .before .before .wide2 .ensures ∙ ap (λ (k : ℕ). getD (start .args .places .now) k 0) (c .before .before .before .before .before .before .before .before .before .before .before .before .before .before .wide .ensures) in
     let first = ap (λ (j : ℕ). j + 2) at in
     let count = c .before .before .before .before .before .before .before .before .before .before .wide3 .ensures ∙ ap (λ (j : ℕ). countAt (start .args .words .now) j) at in
     let end = ap (λ (j : ℕ). c .before .before .before .before .before .before .before .before .before .before .before .before .wide2 .result + 2 + j) count in
@@ -222,7 +222,7 @@ rule-returns t c =
     let start = c .before .before .before .before .before .before .before .before .before .before .before .before .before .before .before in
     let ready = start .pre .1 in
     let stands = rule-stands (ready .known) (ready .number) in
-    let at = c .before .before .before .before .wide2 .ensures ∙ ap (λ (k : ℕ). getD (start .args .starts .now) k 0) (c .before .before .before .before .before .before .wide .ensures) in
+    let at = c .before .before .before .before .wide2 .ensures ∙ ap (λ (k : ℕ). getD (start .args .places .now) k 0) (c .before .before .before .before .before .before .wide .ensures) in
     let first = ap (λ (j : ℕ). j + 2) at in
     let count = c .before .before .wide3 .ensures ∙ ap (λ (j : ℕ). countAt (start .args .words .now) j) at in
     let end = ap (λ (j : ℕ). c .before .before .before .before .wide2 .result + 2 + j) count in
@@ -248,7 +248,7 @@ symbol-returns : (t : ℕ) → symbol-lts.Need-returns (symbol-calls t) (symbol-
 symbol-returns t c =
     let a = c .before .before .before .before .before .before .before .before .before .before .args in
     let high : a .n ≤ a .s = omega (arith, c .before .before .before .before .before .wide .ensures, c .before .before .before .before .if1 .taken) in
-    token-listed (a .words .now) (a .starts .now) (a .table .now) (a .n) _ _ _ _ _ _ high (c .before .before .put .ensures) (one-token (a .past))
+    token-listed (a .words .now) (a .places .now) (a .table .now) (a .n) _ _ _ _ _ _ high (c .before .before .put .ensures) (one-token (a .past))
 
 symbol-mul-chosen : (t : ℕ) → symbol-lts.Need-mul-chosen (symbol-calls t) (symbol-at t) symbol.Post
 symbol-mul-chosen t c = search needs

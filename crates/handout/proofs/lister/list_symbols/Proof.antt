@@ -8,16 +8,16 @@ use Rattle.handout.proofs.lister.list_symbols.Statement.{statement}
 use Rattle.handout.proofs.lister.list_symbols.Tie as tie
 
 abbrev Inv-loop : tie.InvT-loop
-Inv-loop words starts table n symbols past sentence₀ derivation₀ so₀ i₀ sentence derivation so i =
-    Turn words starts table n symbols sentence₀ sentence derivation₀ derivation (lengths so₀) (lengths so) i
+Inv-loop words places table n symbols past sentence₀ derivation₀ so₀ i₀ sentence derivation so i =
+    Turn words places table n symbols sentence₀ sentence derivation₀ derivation (lengths so₀) (lengths so) i
 
 abbrev μ-loop : tie.MeasureT-loop
-μ-loop words starts table n symbols past sentence₀ derivation₀ so₀ i₀ sentence derivation so i = length symbols - i
+μ-loop words places table n symbols past sentence₀ derivation₀ so₀ i₀ sentence derivation so i = length symbols - i
 
 loop-holds : tie.Need-loop-holds Inv-loop μ-loop
 loop-holds c =
     let a = c .before .before .before .before .before .args in
-    turns-begin (a .words .now) (a .starts .now) (a .table .now) (a .n) _ _ _ _
+    turns-begin (a .words .now) (a .places .now) (a .table .now) (a .n) _ _ _ _
 
 mul-list-symbol : tie.Need-mul-list-symbol Inv-loop μ-loop
 mul-list-symbol c = search needs

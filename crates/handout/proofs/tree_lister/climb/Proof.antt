@@ -12,16 +12,16 @@ use Rattle.handout.proofs.tree_lister.climb.Statement.{statement}
 use Rattle.handout.proofs.tree_lister.climb.Tie as tie
 
 abbrev Inv-loop : tie.InvT-loop
-Inv-loop words starts table start from path₀ a₀ steps₀ path a steps =
-    (length path ≡ length path₀) × OnWay words starts table start from path a steps
+Inv-loop words places table start from path₀ a₀ steps₀ path a steps =
+    (length path ≡ length path₀) × OnWay words places table start from path a steps
 
 abbrev μ-loop : tie.MeasureT-loop
-μ-loop words starts table start from path₀ a₀ steps₀ path a steps = entry table a 2
+μ-loop words places table start from path₀ a₀ steps₀ path a steps = entry table a 2
 
 loop-holds : tie.Need-loop-holds Inv-loop μ-loop
 loop-holds c =
     let a = c .before .before .before .args in
-    (refl, way-begins (a .words .now) (a .starts .now) (a .table .now) (a .start) (a .from) (a .path .now))
+    (refl, way-begins (a .words .now) (a .places .now) (a .table .now) (a .start) (a .from) (a .path .now))
 
 narrow-requires : tie.Need-narrow-requires Inv-loop μ-loop
 narrow-requires c κs = search needs

@@ -11,13 +11,13 @@ use Rattle.handout.proofs.tree_lister.list_after.Statement.{statement}
 use Rattle.handout.proofs.tree_lister.list_after.Tie as tie
 
 abbrev Inv-loop : tie.InvT-loop
-Inv-loop words starts table n path steps past sentence₀ derivation₀ so₀ i₀ sentence derivation so i =
+Inv-loop words places table n path steps past sentence₀ derivation₀ so₀ i₀ sentence derivation so i =
     (i ≤ steps) × (length sentence ≡ length sentence₀) × (length derivation ≡ length derivation₀) ×
-    ((start A : ℕ) → PathOf words starts table start A path steps →
-    AfterSo words starts table n start A sentence₀ sentence derivation₀ derivation (lengths so₀) (lengths so) i)
+    ((start A : ℕ) → PathOf words places table start A path steps →
+    AfterSo words places table n start A sentence₀ sentence derivation₀ derivation (lengths so₀) (lengths so) i)
 
 abbrev μ-loop : tie.MeasureT-loop
-μ-loop words starts table n path steps past sentence₀ derivation₀ so₀ i₀ sentence derivation so i = steps - i
+μ-loop words places table n path steps past sentence₀ derivation₀ so₀ i₀ sentence derivation so i = steps - i
 
 loop-holds : tie.Need-loop-holds Inv-loop μ-loop
 loop-holds c =
@@ -25,7 +25,7 @@ loop-holds c =
       omega arith,
       refl,
       refl,
-      λ start A way. after-begins (a .words .now) (a .starts .now) (a .table .now) (a .n) start A _ _ _,
+      λ start A way. after-begins (a .words .now) (a .places .now) (a .table .now) (a .n) start A _ _ _,
     )
 
 mul-wide : tie.Need-mul-wide Inv-loop μ-loop

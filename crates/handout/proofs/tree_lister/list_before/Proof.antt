@@ -12,14 +12,14 @@ use Rattle.handout.proofs.tree_lister.list_before.Statement.{statement}
 use Rattle.handout.proofs.tree_lister.list_before.Tie as tie
 
 abbrev Inv-loop : tie.InvT-loop
-Inv-loop words starts table n path steps sentence₀ derivation₀ so₀ i₀ sentence derivation so i =
+Inv-loop words places table n path steps sentence₀ derivation₀ so₀ i₀ sentence derivation so i =
     (i ≤ steps) × (length sentence ≡ length sentence₀) × (length derivation ≡ length derivation₀) ×
-    ((start A : ℕ) → PathOf words starts table start A path steps →
-    SideWritten before words starts table n start (climbed words starts table A i) sentence₀ sentence derivation₀ derivation
+    ((start A : ℕ) → PathOf words places table start A path steps →
+    SideWritten before words places table n start (climbed words places table A i) sentence₀ sentence derivation₀ derivation
     none-so-far (lengths so))
 
 abbrev μ-loop : tie.MeasureT-loop
-μ-loop words starts table n path steps sentence₀ derivation₀ so₀ i₀ sentence derivation so i = i
+μ-loop words places table n path steps sentence₀ derivation₀ so₀ i₀ sentence derivation so i = i
 
 loop-holds : tie.Need-loop-holds Inv-loop μ-loop
 loop-holds c = (omega arith, refl, refl, λ start A way. before-begins way)

@@ -4,7 +4,7 @@ use mathlib.Core.Path.{_≡_, refl}
 use native.Mathlib.Omega.{arith}
 use lib.ListN.{length}
 use Rattle.grammar.specs.Words.{Grammar}
-use Rattle.grammar.proofs.RulesInView.{View}
+use Rattle.layout.specs.View.{View}
 use Rattle.replay.specs.ReplaySteps.{Kept, toDo}
 use Rattle.replay.proofs.ReplayStepped.{passes-kept, passes-no-more}
 use Rattle.replay.proofs.ReplayRun.{Held, held-start, kept-start, onward, held-passed, held-on, held-end, held-stop}
@@ -13,12 +13,12 @@ use Rattle.replay.proofs.derivation.run.Statement.{statement}
 use Rattle.replay.proofs.derivation.run.Tie as tie
 
 abbrev Inv-loop : tie.InvT-loop
-Inv-loop words starts n rules list stack₀ sentence₀ form₀ stack sentence form =
+Inv-loop words places n rules list stack₀ sentence₀ form₀ stack sentence form =
     Kept words list stack form × (length stack ≡ length stack₀) × (length sentence ≡ length sentence₀) ×
-    ((g : Grammar) → View words starts n rules g → Held g words list stack form sentence₀ sentence)
+    ((g : Grammar) → View words places n rules g → Held g words list stack form sentence₀ sentence)
 
 abbrev μ-loop : tie.MeasureT-loop
-μ-loop words starts n rules list stack₀ sentence₀ form₀ stack sentence form = toDo words list stack form
+μ-loop words places n rules list stack₀ sentence₀ form₀ stack sentence form = toDo words list stack form
 
 loop-holds : tie.Need-loop-holds Inv-loop μ-loop
 loop-holds c =

@@ -14,12 +14,12 @@ use Rattle.tables.proofs.chains.follow_context.Statement.{statement}
 use Rattle.tables.proofs.chains.follow_context.Tie as tie
 
 abbrev Inv-loop : tie.InvT-loop
-Inv-loop words starts n rules sizes owned seen₀ from leasts contexts₀ r₀ seen contexts r =
+Inv-loop words places n rules sizes owned seen₀ from leasts contexts₀ r₀ seen contexts r =
     (length contexts ≡ length contexts₀) × (length seen ≡ length seen₀) × (weight contexts ≤ weight contexts₀) ×
-    ((g : Grammar) → Known words starts n rules sizes leasts g → Stands g leasts contexts₀ seen₀ → Stands g leasts contexts seen)
+    ((g : Grammar) → Known words places n rules sizes leasts g → Stands g leasts contexts₀ seen₀ → Stands g leasts contexts seen)
 
 abbrev μ-loop : tie.MeasureT-loop
-μ-loop words starts n rules sizes owned seen₀ from leasts contexts₀ r₀ seen contexts r = weight contexts
+μ-loop words places n rules sizes owned seen₀ from leasts contexts₀ r₀ seen contexts r = weight contexts
 
 loop-holds : tie.Need-loop-holds Inv-loop μ-loop
 loop-holds c = (refl, refl, omega arith, λ g known stands. stands)

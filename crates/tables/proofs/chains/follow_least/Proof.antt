@@ -6,7 +6,7 @@ use native.Mathlib.Omega.{arith}
 use lib.ListN.{length}
 use Rattle.grammar.specs.Words.{Grammar}
 use Rattle.tables.specs.Figures.{weight, LeastsSound}
-use Rattle.grammar.proofs.RulesInView.{View}
+use Rattle.layout.specs.View.{View}
 use Rattle.tables.proofs.LeastRounds.{step-fallen, least-kept}
 use Rattle.tables.proofs.RulesInside.{left-within, nonterminals-within}
 use borrow.Author.Needs.{needs}
@@ -14,12 +14,12 @@ use Rattle.tables.proofs.chains.follow_least.Statement.{statement}
 use Rattle.tables.proofs.chains.follow_least.Tie as tie
 
 abbrev Inv-loop : tie.InvT-loop
-Inv-loop words starts n rules users from leasts₀ r₀ leasts r =
+Inv-loop words places n rules users from leasts₀ r₀ leasts r =
     (length leasts ≡ length leasts₀) × (weight leasts ≤ weight leasts₀) ×
-    ((g : Grammar) → View words starts n rules g → LeastsSound g leasts₀ → LeastsSound g leasts)
+    ((g : Grammar) → View words places n rules g → LeastsSound g leasts₀ → LeastsSound g leasts)
 
 abbrev μ-loop : tie.MeasureT-loop
-μ-loop words starts n rules users from leasts₀ r₀ leasts r = weight leasts
+μ-loop words places n rules users from leasts₀ r₀ leasts r = weight leasts
 
 loop-holds : tie.Need-loop-holds Inv-loop μ-loop
 loop-holds c = (refl, omega arith, λ g view sound. sound)

@@ -7,10 +7,10 @@ use Rattle.tables.proofs.chains.note_rules.Statement.{statement}
 use Rattle.tables.proofs.chains.note_rules.Tie as tie
 
 abbrev Inv-loop : tie.InvT-loop
-Inv-loop words starts rules owned₀ r₀ owned r = length owned ≡ length owned₀
+Inv-loop words places rules owned₀ r₀ owned r = length owned ≡ length owned₀
 
 abbrev μ-loop : tie.MeasureT-loop
-μ-loop words starts rules owned₀ r₀ owned r = rules - r
+μ-loop words places rules owned₀ r₀ owned r = rules - r
 
 loop-holds : tie.Need-loop-holds Inv-loop μ-loop
 loop-holds c = refl

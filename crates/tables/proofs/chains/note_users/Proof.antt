@@ -7,10 +7,10 @@ use Rattle.tables.proofs.chains.note_users.Statement.{statement}
 use Rattle.tables.proofs.chains.note_users.Tie as tie
 
 abbrev Inv-loop : tie.InvT-loop
-Inv-loop words starts rules users₀ r₀ users r = length users ≡ length users₀
+Inv-loop words places rules users₀ r₀ users r = length users ≡ length users₀
 
 abbrev μ-loop : tie.MeasureT-loop
-μ-loop words starts rules users₀ r₀ users r = rules - r
+μ-loop words places rules users₀ r₀ users r = rules - r
 
 loop-holds : tie.Need-loop-holds Inv-loop μ-loop
 loop-holds c = refl

@@ -37,11 +37,11 @@ mul-if3 c = search needs
 slice-read-if3 : tie.Need-slice-read-if3
 slice-read-if3 c = search needs
 
-mul-places : tie.Need-mul-places
-mul-places c = search needs
+mul-leads : tie.Need-mul-leads
+mul-leads c = search needs
 
-slice-write-places : tie.Need-slice-write-places
-slice-write-places c = search needs
+slice-write-leads : tie.Need-slice-write-leads
+slice-write-leads c = search needs
 
 same-length : tie.Need-same-length
 same-length c = search needs
@@ -49,17 +49,17 @@ same-length c = search needs
 returns : tie.Need-returns
 returns c =
     let a = c .before .before .before .before .before .before .args in
-    let h : a .s < length (a .places .now) = omega arith in
+    let h : a .s < length (a .leads .now) = omega arith in
     let e = figure-is (a .leasts .now) (a .s) 0 (omega arith) in
     let e′ = figure-is (a .contexts .now) (a .s) 0 (omega arith) in
-    does (omega arith, omega (arith, e, e′)) (noted h (omega (arith, figure-is (a .places .now) (a .s) 0 h)))
+    does (omega arith, omega (arith, e, e′)) (noted h (omega (arith, figure-is (a .leads .now) (a .s) 0 h)))
 
 returns-2 : tie.Need-returns-2
 returns-2 c =
     let a = c .before .before .before .before .before .before .args in
     let e = figure-is (a .leasts .now) (a .s) 0 (omega arith) in
     let e′ = figure-is (a .contexts .now) (a .s) 0 (omega arith) in
-    does (omega arith, omega (arith, e, e′)) (kept (λ h has. omega (arith, figure-is (a .places .now) (a .s) 0 h)))
+    does (omega arith, omega (arith, e, e′)) (kept (λ h has. omega (arith, figure-is (a .leads .now) (a .s) 0 h)))
 
 returns-3 : tie.Need-returns-3
 returns-3 c =
@@ -84,8 +84,8 @@ choose-place-spec =
     add-if2
     mul-if3
     slice-read-if3
-    mul-places
-    slice-write-places
+    mul-leads
+    slice-write-leads
     same-length
     returns
     returns-2

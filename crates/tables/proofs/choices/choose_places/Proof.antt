@@ -6,26 +6,27 @@ use native.Mathlib.Omega.{arith}
 use borrow.Author.Needs.{needs}
 use lib.ListN.{length}
 use Rattle.grammar.specs.Words.{Grammar}
-use Rattle.grammar.specs.Rules.{rightAt}
+use Rattle.layout.specs.Rules.{rightAt}
 use Rattle.grammar.proofs.LayoutExact.{in-bounds, rule-short}
 use Rattle.tables.specs.Figures.{Empty, PlacesOf}
 use Rattle.tables.proofs.FirstsNoted.{firsts-empty, empty-room}
-use Rattle.grammar.proofs.RulesInView.{View, viewed-rule, viewed-right, viewed-room}
+use Rattle.layout.specs.View.{View}
+use Rattle.layout.proofs.RulesInView.{viewed-rule, viewed-right, viewed-room}
 use Rattle.tables.proofs.choices.choose_places.Statement.{statement}
 use Rattle.tables.proofs.choices.choose_places.Tie as tie
 
 abbrev Inv-loop : tie.InvT-loop
-Inv-loop words starts n rules leasts contexts totals places₀ r₀ places r =
-    (r ≤ rules) × (length places ≡ length places₀) ×
-    ((g : Grammar) → View words starts n rules g → Empty places₀ → PlacesOf g leasts contexts totals places (32 * r))
+Inv-loop words places n rules leasts contexts totals leads₀ r₀ leads r =
+    (r ≤ rules) × (length leads ≡ length leads₀) ×
+    ((g : Grammar) → View words places n rules g → Empty leads₀ → PlacesOf g leasts contexts totals leads (32 * r))
 
 abbrev μ-loop : tie.MeasureT-loop
-μ-loop words starts n rules leasts contexts totals places₀ r₀ places r = rules - r
+μ-loop words places n rules leasts contexts totals leads₀ r₀ leads r = rules - r
 
 loop-holds : tie.Need-loop-holds Inv-loop μ-loop
 loop-holds c =
     let a = c .before .before .before .before .args in
-    (omega arith, refl, λ g view empty. firsts-empty _ (g .N) (a .places .now) empty (viewed-room view (omega arith)))
+    (omega arith, refl, λ g view empty. firsts-empty _ (g .N) (a .leads .now) empty (viewed-room view (omega arith)))
 
 index-requires : tie.Need-index-requires Inv-loop μ-loop
 index-requires c κs = search needs
@@ -70,7 +71,7 @@ loop-again c =
       λ g view empty.
           let (A, w, rule) = viewed-rule view (loop .r) (omega arith) in
           let read = right .ensures .0 ∙ ap (rightAt (a .words .now)) (at .ensures .0 (omega arith)) ∙ viewed-right view rule in
-          let room = empty-room (a .places .now) empty in
+          let room = empty-room (a .leads .now) empty in
           chose .ensures g A (a .totals .now) (in-bounds (a .words .now) (view .is)) (view .nonterminals) (rw read rule) refl
           (omega (arith, loop .inv .1)) (loop .inv .2 g view empty),
     )

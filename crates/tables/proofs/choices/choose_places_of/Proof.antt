@@ -14,14 +14,14 @@ use Rattle.tables.proofs.choices.choose_places_of.Statement.{statement}
 use Rattle.tables.proofs.choices.choose_places_of.Tie as tie
 
 abbrev Inv-loop : tie.InvT-loop
-Inv-loop symbols n r total leasts contexts places₀ i₀ places i =
-    (i ≤ length symbols) × (length places ≡ length places₀) ×
+Inv-loop symbols n r total leasts contexts leads₀ i₀ leads i =
+    (i ≤ length symbols) × (length leads ≡ length leads₀) ×
     ((g : Grammar) (B : ℕ) (totals : List ℕ) → InBounds g → n ≡ g .N → RuleAt g r B symbols → total ≡ getD totals r 0 →
-    128 ≤ length places₀ → PlacesOf g leasts contexts totals places₀ (32 * r) →
-    PlacesOf g leasts contexts totals places (32 * r + i))
+    128 ≤ length leads₀ → PlacesOf g leasts contexts totals leads₀ (32 * r) →
+    PlacesOf g leasts contexts totals leads (32 * r + i))
 
 abbrev μ-loop : tie.MeasureT-loop
-μ-loop symbols n r total leasts contexts places₀ i₀ places i = length symbols - i
+μ-loop symbols n r total leasts contexts leads₀ i₀ leads i = length symbols - i
 
 loop-holds : tie.Need-loop-holds Inv-loop μ-loop
 loop-holds c = (omega arith, refl, λ g B totals ok n-is rule t-is room before. rw add-zero before)
@@ -63,7 +63,7 @@ loop-again c =
       λ g B totals ok n-is rule t-is room before.
           let so-far = loop .inv .2 g B totals ok n-is rule t-is room before in
           let noted = rw (n-is, t-is) at (chose .ensures) in
-          place-chosen g ok (a .leasts .now) (a .contexts .now) totals rule (loop .places) (loop .i) so-far _ (omega arith) refl
+          place-chosen g ok (a .leasts .now) (a .contexts .now) totals rule (loop .leads) (loop .i) so-far _ (omega arith) refl
           noted (omega arith) (omega (arith, loop .inv .1)),
     )
 
@@ -75,7 +75,7 @@ returns c g B totals ok n-is rule t-is room before =
     let loop = c .before .loop in
     let a = c .before .before .before .before .before .before .args in
     let so-far = loop .inv .2 g B totals ok n-is rule t-is room before in
-    places-end g ok (a .leasts .now) (a .contexts .now) totals rule (loop .places) (loop .i) so-far (omega arith) (omega arith)
+    places-end g ok (a .leasts .now) (a .contexts .now) totals rule (loop .leads) (loop .i) so-far (omega arith) (omega arith)
 
 pub choose-places-of-spec : {M : Type 1} → statement M
 choose-places-of-spec =

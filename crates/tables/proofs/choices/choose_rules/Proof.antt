@@ -8,18 +8,19 @@ use lib.ListN.{length, getD}
 use Rattle.grammar.specs.Words.{Grammar}
 use Rattle.tables.specs.Figures.{Empty, ChosenOf}
 use Rattle.tables.proofs.FirstsNoted.{firsts-empty, empty-room}
-use Rattle.grammar.proofs.RulesInView.{View, viewed-room}
+use Rattle.layout.specs.View.{View}
+use Rattle.layout.proofs.RulesInView.{viewed-room}
 use Rattle.tables.proofs.RulesChosen.{rule-chosen}
 use Rattle.tables.proofs.choices.choose_rules.Statement.{statement}
 use Rattle.tables.proofs.choices.choose_rules.Tie as tie
 
 abbrev Inv-loop : tie.InvT-loop
-Inv-loop words starts rules leasts sizes chosen₀ r₀ chosen r =
+Inv-loop words places rules leasts sizes chosen₀ r₀ chosen r =
     (r ≤ rules) × (length chosen ≡ length chosen₀) ×
-    ((g : Grammar) (n : ℕ) → View words starts n rules g → Empty chosen₀ → ChosenOf g leasts sizes chosen r)
+    ((g : Grammar) (n : ℕ) → View words places n rules g → Empty chosen₀ → ChosenOf g leasts sizes chosen r)
 
 abbrev μ-loop : tie.MeasureT-loop
-μ-loop words starts rules leasts sizes chosen₀ r₀ chosen r = rules - r
+μ-loop words places rules leasts sizes chosen₀ r₀ chosen r = rules - r
 
 loop-holds : tie.Need-loop-holds Inv-loop μ-loop
 loop-holds c =

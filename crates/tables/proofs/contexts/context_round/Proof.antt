@@ -9,11 +9,11 @@ use Rattle.tables.proofs.contexts.context_round.Statement.{statement}
 use Rattle.tables.proofs.contexts.context_round.Tie as tie
 
 abbrev Inv-loop : tie.InvT-loop
-Inv-loop words starts n rules sizes owned seen₀ up leasts contexts₀ fell₀ i₀ seen contexts fell i =
-    SeenSoFar words starts n rules sizes leasts up i contexts₀ seen₀ contexts seen fell
+Inv-loop words places n rules sizes owned seen₀ up leasts contexts₀ fell₀ i₀ seen contexts fell i =
+    SeenSoFar words places n rules sizes leasts up i contexts₀ seen₀ contexts seen fell
 
 abbrev μ-loop : tie.MeasureT-loop
-μ-loop words starts n rules sizes owned seen₀ up leasts contexts₀ fell₀ i₀ seen contexts fell i = rules - i
+μ-loop words places n rules sizes owned seen₀ up leasts contexts₀ fell₀ i₀ seen contexts fell i = rules - i
 
 loop-holds : tie.Need-loop-holds Inv-loop μ-loop
 loop-holds c = none-seen _ _ _ _ _ _ _ _

@@ -13,12 +13,12 @@ use Rattle.tables.proofs.contexts.context_rounds.Statement.{statement}
 use Rattle.tables.proofs.contexts.context_rounds.Tie as tie
 
 abbrev Inv-loop : tie.InvT-loop
-Inv-loop words starts n rules sizes leasts contexts₀ owned seen₀ fell₀ up₀ contexts seen fell up =
+Inv-loop words places n rules sizes leasts contexts₀ owned seen₀ fell₀ up₀ contexts seen fell up =
     (length contexts ≡ length contexts₀) × (length seen ≡ 256) ×
-    ((g : Grammar) → Known words starts n rules sizes leasts g → SeenRounds g leasts rules contexts₀ seen₀ contexts seen fell)
+    ((g : Grammar) → Known words places n rules sizes leasts g → SeenRounds g leasts rules contexts₀ seen₀ contexts seen fell)
 
 abbrev μ-loop : tie.MeasureT-loop
-μ-loop words starts n rules sizes leasts contexts₀ owned seen₀ fell₀ up₀ contexts seen fell up = weight contexts + fell
+μ-loop words places n rules sizes leasts contexts₀ owned seen₀ fell₀ up₀ contexts seen fell up = weight contexts + fell
 
 slice-aggregate-note-rules : tie.Need-slice-aggregate-note-rules Inv-loop μ-loop
 slice-aggregate-note-rules c = search needs

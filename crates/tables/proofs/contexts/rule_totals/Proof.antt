@@ -12,12 +12,12 @@ use Rattle.tables.proofs.contexts.rule_totals.Statement.{statement}
 use Rattle.tables.proofs.contexts.rule_totals.Tie as tie
 
 abbrev Inv-loop : tie.InvT-loop
-Inv-loop words starts rules sizes contexts totals₀ r₀ totals r =
+Inv-loop words places rules sizes contexts totals₀ r₀ totals r =
     (r ≤ rules) × (length totals ≡ length totals₀) ×
-    ((k : ℕ) → k < r → getD totals k 0 ≡ totalAt words starts sizes contexts k)
+    ((k : ℕ) → k < r → getD totals k 0 ≡ totalAt words places sizes contexts k)
 
 abbrev μ-loop : tie.MeasureT-loop
-μ-loop words starts rules sizes contexts totals₀ r₀ totals r = rules - r
+μ-loop words places rules sizes contexts totals₀ r₀ totals r = rules - r
 
 loop-holds : tie.Need-loop-holds Inv-loop μ-loop
 loop-holds c = (omega arith, refl, λ k h. absurd (omega arith))
@@ -68,7 +68,7 @@ loop-again c =
     let context = at .figure-at .ensures .0 ∙ ap (figure (a .contexts .now)) left in (
       omega arith,
       simp length-set (loop .loop .inv .1),
-      written-more (λ k x. x ≡ totalAt (a .words .now) (a .starts .now) (a .sizes .now) (a .contexts .now) k)
+      written-more (λ k x. x ≡ totalAt (a .words .now) (a .places .now) (a .sizes .now) (a .contexts .now) k)
           (loop .loop .totals) (omega arith) (omega (arith, context)) (loop .loop .inv .2),
     )
 

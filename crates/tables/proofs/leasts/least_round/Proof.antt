@@ -11,10 +11,10 @@ use Rattle.tables.proofs.leasts.least_round.Statement.{statement}
 use Rattle.tables.proofs.leasts.least_round.Tie as tie
 
 abbrev Inv-loop : tie.InvT-loop
-Inv-loop words starts n rules users up leasts₀ fell₀ i₀ leasts fell i = LeastsSoFar words starts n rules up i leasts₀ leasts fell
+Inv-loop words places n rules users up leasts₀ fell₀ i₀ leasts fell i = LeastsSoFar words places n rules up i leasts₀ leasts fell
 
 abbrev μ-loop : tie.MeasureT-loop
-μ-loop words starts n rules users up leasts₀ fell₀ i₀ leasts fell i = rules - i
+μ-loop words places n rules users up leasts₀ fell₀ i₀ leasts fell i = rules - i
 
 loop-holds : tie.Need-loop-holds Inv-loop μ-loop
 loop-holds c = none-so-far _ LeastsSound QuietIfSound _

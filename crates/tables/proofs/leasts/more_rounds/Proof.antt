@@ -4,7 +4,7 @@ use Prim.Native.Nat.{_+_}
 use mathlib.Core.Path.{_≡_, refl}
 use lib.ListN.{length}
 use Rattle.grammar.specs.Words.{Grammar}
-use Rattle.grammar.proofs.RulesInView.{View}
+use Rattle.layout.specs.View.{View}
 use Rattle.tables.specs.Figures.{weight}
 use Rattle.tables.specs.LeastSteps.{Rounded}
 use Rattle.tables.proofs.LeastRounds.{rounded}
@@ -14,12 +14,12 @@ use Rattle.tables.proofs.leasts.more_rounds.Statement.{statement}
 use Rattle.tables.proofs.leasts.more_rounds.Tie as tie
 
 abbrev Inv-loop : tie.InvT-loop
-Inv-loop words starts n rules users first leasts₀ fell₀ up₀ leasts fell up =
+Inv-loop words places n rules users first leasts₀ fell₀ up₀ leasts fell up =
     (length leasts ≡ length leasts₀) ×
-    ((g : Grammar) → View words starts n rules g → Rounded g rules leasts₀ first → Rounded g rules leasts fell)
+    ((g : Grammar) → View words places n rules g → Rounded g rules leasts₀ first → Rounded g rules leasts fell)
 
 abbrev μ-loop : tie.MeasureT-loop
-μ-loop words starts n rules users first leasts₀ fell₀ up₀ leasts fell up = weight leasts + fell
+μ-loop words places n rules users first leasts₀ fell₀ up₀ leasts fell up = weight leasts + fell
 
 loop-holds : tie.Need-loop-holds Inv-loop μ-loop
 loop-holds c = (refl, λ g view so-far. so-far)

@@ -5,7 +5,7 @@ use mathlib.Core.Bool.{true}
 use Prim.Native.Nat.{_-_, _≤_, _<_}
 use lib.ListN.{length}
 use Rattle.grammar.specs.Words.{Grammar}
-use Rattle.grammar.proofs.RulesInView.{View}
+use Rattle.layout.specs.View.{View}
 use Rattle.tables.specs.LeastSteps.{Settled}
 use Rattle.tables.proofs.RulesInside.{inside, left-within, nonterminals-within}
 use Rattle.tables.proofs.RuleSizes.{settled-more, unsettled}
@@ -15,12 +15,12 @@ use Rattle.tables.proofs.leasts.sizes_settle.Statement.{statement}
 use Rattle.tables.proofs.leasts.sizes_settle.Tie as tie
 
 abbrev Inv-loop : tie.InvT-loop
-Inv-loop words starts n rules leasts sizes₀ r₀ sizes r =
+Inv-loop words places n rules leasts sizes₀ r₀ sizes r =
     (r ≤ rules) × (length sizes ≡ length sizes₀) ×
-    ((g : Grammar) → View words starts n rules g → Settled g leasts sizes r true)
+    ((g : Grammar) → View words places n rules g → Settled g leasts sizes r true)
 
 abbrev μ-loop : tie.MeasureT-loop
-μ-loop words starts n rules leasts sizes₀ r₀ sizes r = rules - r
+μ-loop words places n rules leasts sizes₀ r₀ sizes r = rules - r
 
 loop-holds : tie.Need-loop-holds Inv-loop μ-loop
 loop-holds c = (omega arith, refl, λ g view k h. absurd (omega arith))

@@ -4,7 +4,7 @@ use Prim.Native.Nat.{ℕ, _≤_, _<_, _-_}
 use native.Mathlib.Omega.{arith}
 use borrow.Author.Count.{below-more}
 use Rattle.grammar.specs.Words.{Grammar}
-use Rattle.grammar.proofs.RulesInView.{View}
+use Rattle.layout.specs.View.{View}
 use Rattle.tables.specs.Tests.{ChoicePasses}
 use Rattle.tables.proofs.Telling.{told, refuted}
 use borrow.Author.Needs.{needs}
@@ -12,11 +12,11 @@ use Rattle.tables.proofs.passes.choices_pass.Statement.{statement}
 use Rattle.tables.proofs.passes.choices_pass.Tie as tie
 
 abbrev Inv-loop : tie.InvT-loop
-Inv-loop words starts n start rules table a₀ a =
-    (a ≤ n) × ((b : ℕ) → b < a → (g : Grammar) → View words starts n rules g → ChoicePasses g start table b)
+Inv-loop words places n start rules table a₀ a =
+    (a ≤ n) × ((b : ℕ) → b < a → (g : Grammar) → View words places n rules g → ChoicePasses g start table b)
 
 abbrev μ-loop : tie.MeasureT-loop
-μ-loop words starts n start rules table a₀ a = n - a
+μ-loop words places n start rules table a₀ a = n - a
 
 loop-holds : tie.Need-loop-holds Inv-loop μ-loop
 loop-holds c = (omega arith, λ k h. absurd (omega arith))

@@ -5,7 +5,7 @@ use Rattle.tables.proofs.RulesRead.{below-rules}
 use Rattle.tables.proofs.ChoicesRead.{context-there, context-symbol, context-answered}
 use borrow.Author.Needs.{needs}
 use mathlib.Core.Path.{refl, ap, _∙_}
-use Rattle.grammar.specs.Rules.{rightAt}
+use Rattle.layout.specs.Rules.{rightAt}
 use Rattle.tables.proofs.passes.context_passes.Statement.{statement}
 use Rattle.tables.proofs.passes.context_passes.Tie as tie
 

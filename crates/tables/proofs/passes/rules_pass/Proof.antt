@@ -6,7 +6,7 @@ use mathlib.Core.List.{List}
 use borrow.Author.Count.{below-more}
 use Rattle.grammar.specs.Words.{Grammar, RuleAt}
 use Rattle.tables.specs.Table.{totalEntry}
-use Rattle.grammar.proofs.RulesInView.{View}
+use Rattle.layout.specs.View.{View}
 use Rattle.tables.specs.Tests.{RulePasses}
 use Rattle.tables.proofs.Telling.{told, refuted}
 use Rattle.tables.proofs.RulesRead.{below-rules, rule-answered}
@@ -17,13 +17,13 @@ use Rattle.tables.proofs.passes.rules_pass.Statement.{statement}
 use Rattle.tables.proofs.passes.rules_pass.Tie as tie
 
 abbrev Inv-loop : tie.InvT-loop
-Inv-loop words starts n rules table r₀ r =
+Inv-loop words places n rules table r₀ r =
     (r ≤ rules) ×
-    ((k : ℕ) → k < r → (g : Grammar) → View words starts n rules g → (A : ℕ) (w : List ℕ) → RuleAt g k A w →
+    ((k : ℕ) → k < r → (g : Grammar) → View words places n rules g → (A : ℕ) (w : List ℕ) → RuleAt g k A w →
     RulePasses g table k (totalEntry g table k) A w)
 
 abbrev μ-loop : tie.MeasureT-loop
-μ-loop words starts n rules table r₀ r = rules - r
+μ-loop words places n rules table r₀ r = rules - r
 
 loop-holds : tie.Need-loop-holds Inv-loop μ-loop
 loop-holds c = (omega arith, λ k h. absurd (omega arith))

@@ -2,7 +2,7 @@
 -- Assumes nothing.
 use mathlib.Core.Path.{refl}
 use native.Mathlib.Omega.{arith}
-use Rattle.grammar.proofs.WordsRead.{view-few}
+use Rattle.layout.proofs.WordsRead.{view-few}
 use Rattle.tables.proofs.Outcomes.{leasts-start, refuses-5, grown}
 use borrow.Author.Needs.{needs}
 use Rattle.tables.proofs.worked_out.of_grammar.Statement.{statement}

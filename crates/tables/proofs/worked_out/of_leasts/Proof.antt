@@ -4,7 +4,7 @@ use mathlib.Core.Path.{refl}
 use native.Mathlib.Omega.{arith}
 use borrow.Author.Needs.{needs}
 use lib.ListN.{length-set}
-use Rattle.grammar.proofs.WordsRead.{view-few}
+use Rattle.layout.proofs.WordsRead.{view-few}
 use Rattle.tables.proofs.Outcomes.{start-few, contexts-start, refuses-6, placed}
 use Rattle.tables.proofs.worked_out.of_leasts.Statement.{statement}
 use Rattle.tables.proofs.worked_out.of_leasts.Tie as tie

@@ -20,9 +20,9 @@ returns c =
     let start = c .before .before .before .before .before .before .before .before .before .before .before .before .before in
     let room = start .pre .0 .2 in
     let a = start .args in
-    all-written (a .n) (a .leasts .now) (a .chosen .now) (a .contexts .now) (a .places .now) (a .totals .now) (a .rules)
+    all-written (a .n) (a .leasts .now) (a .chosen .now) (a .contexts .now) (a .leads .now) (a .totals .now) (a .rules)
     (a .table .now)
-    (totals (a .leasts .now) (a .chosen .now) (a .contexts .now) (a .places .now) (a .table .now) room
+    (totals (a .leasts .now) (a .chosen .now) (a .contexts .now) (a .leads .now) (a .table .now) room
     (fives (a .totals .now) (a .rules) room))
 
 pub write-spec : {M : Type 1} → statement M

@@ -94,8 +94,8 @@ returns c =
     let a = c .before .before .before .before .before .before .before .before .before .before .before .args in
     let rule = c .before .context-rule .ensures in
     let place = c .context-place .ensures in
-    let at = figure-is (a .places .now) (a .a) 0 (omega arith) in
-    let five = fiveWord (a .leasts .now) (a .chosen .now) (a .contexts .now) (a .places .now) (a .a) in
+    let at = figure-is (a .leads .now) (a .a) 0 (omega arith) in
+    let five = fiveWord (a .leasts .now) (a .chosen .now) (a .contexts .now) (a .leads .now) (a .a) in
     same-five five (5 * a .a) (a .table .now) (figure-is (a .leasts .now) (a .a) 0 (omega arith))
     (figure-is (a .chosen .now) (a .a) 0 (omega arith)) (figure-is (a .contexts .now) (a .a) 0 (omega arith))
     (rule ∙ ap contextRule at) (place ∙ ap contextPlace at)

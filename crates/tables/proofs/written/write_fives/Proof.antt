@@ -12,13 +12,13 @@ use Rattle.tables.proofs.written.write_fives.Statement.{statement}
 use Rattle.tables.proofs.written.write_fives.Tie as tie
 
 abbrev Inv-loop : tie.InvT-loop
-Inv-loop n leasts chosen contexts places table₀ a₀ table a =
+Inv-loop n leasts chosen contexts leads table₀ a₀ table a =
     (a ≤ n) × (length table ≡ length table₀) ×
     ((totals : List ℕ) (rules : ℕ) → 5 * n + rules ≤ length table₀ →
-    table ≡ writtenTo n leasts chosen contexts places totals rules table₀ (5 * a))
+    table ≡ writtenTo n leasts chosen contexts leads totals rules table₀ (5 * a))
 
 abbrev μ-loop : tie.MeasureT-loop
-μ-loop n leasts chosen contexts places table₀ a₀ table a = n - a
+μ-loop n leasts chosen contexts leads table₀ a₀ table a = n - a
 
 loop-holds : tie.Need-loop-holds Inv-loop μ-loop
 loop-holds c = search needs
@@ -40,7 +40,7 @@ loop-again c =
       omega arith,
       search needs,
       λ totals rules room.
-          store-five (a .n) (a .leasts .now) (a .chosen .now) (a .contexts .now) (a .places .now) totals rules (a .table .now)
+          store-five (a .n) (a .leasts .now) (a .chosen .now) (a .contexts .now) (a .leads .now) totals rules (a .table .now)
           (loop .a) (omega arith) room (loop .inv .2 totals rules room) wrote,
     )
 

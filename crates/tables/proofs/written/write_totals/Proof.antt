@@ -14,9 +14,9 @@ use Rattle.tables.proofs.written.write_totals.Tie as tie
 abbrev Inv-loop : tie.InvT-loop
 Inv-loop n rules totals table₀ r₀ table r =
     (r ≤ rules) × (length table ≡ length table₀) ×
-    ((leasts chosen contexts places before : List ℕ) → 5 * n + rules ≤ length before →
-    table₀ ≡ writtenTo n leasts chosen contexts places totals rules before (5 * n) →
-    table ≡ writtenTo n leasts chosen contexts places totals rules before (5 * n + r))
+    ((leasts chosen contexts leads before : List ℕ) → 5 * n + rules ≤ length before →
+    table₀ ≡ writtenTo n leasts chosen contexts leads totals rules before (5 * n) →
+    table ≡ writtenTo n leasts chosen contexts leads totals rules before (5 * n + r))
 
 abbrev μ-loop : tie.MeasureT-loop
 μ-loop n rules totals table₀ r₀ table r = rules - r
@@ -24,7 +24,7 @@ abbrev μ-loop : tie.MeasureT-loop
 loop-holds : tie.Need-loop-holds Inv-loop μ-loop
 loop-holds c =
     let e : 5 * c .args .n + 0 ≡ 5 * c .args .n = omega arith in
-    (omega arith, refl, λ leasts chosen contexts places before room so-far. rw e so-far)
+    (omega arith, refl, λ leasts chosen contexts leads before room so-far. rw e so-far)
 
 mul-table : tie.Need-mul-table Inv-loop μ-loop
 mul-table c = search needs
@@ -56,20 +56,20 @@ loop-again c =
     let a = c .before .before .before .args in (
       omega arith,
       simp length-set (loop .inv .1),
-      λ leasts chosen contexts places before room at.
-          store-word (a .n) leasts chosen contexts places (a .totals .now) (a .rules) before {j = 5 * a .n + (loop .r + 1)}
+      λ leasts chosen contexts leads before room at.
+          store-word (a .n) leasts chosen contexts leads (a .totals .now) (a .rules) before {j = 5 * a .n + (loop .r + 1)}
           (omega arith) room (omega arith)
-          (at-total (a .n) leasts chosen contexts places (a .totals .now) (a .rules) (loop .r) (omega arith))
-          (loop .inv .2 leasts chosen contexts places before room at),
+          (at-total (a .n) leasts chosen contexts leads (a .totals .now) (a .rules) (loop .r) (omega arith))
+          (loop .inv .2 leasts chosen contexts leads before room at),
     )
 
 same-length : tie.Need-same-length Inv-loop μ-loop
 same-length c = search needs
 
 returns : tie.Need-returns Inv-loop μ-loop
-returns c leasts chosen contexts places before room at =
+returns c leasts chosen contexts leads before room at =
     let end : c .before .loop .r ≡ c .before .before .args .rules = omega arith in
-    rw end at (c .before .loop .inv .2 leasts chosen contexts places before room at)
+    rw end at (c .before .loop .inv .2 leasts chosen contexts leads before room at)
 
 pub write-totals-spec : {M : Type 1} → statement M
 write-totals-spec =
