@@ -14,7 +14,7 @@ use Rattle.layout.specs.Walk.{countAt}
 use Rattle.layout.specs.Rules.{rightAt}
 use Rattle.grammar.specs.Tree.{node, nil}
 use Rattle.grammar.proofs.LayoutExact.{in-bounds}
-use Rattle.layout.proofs.RulePlaces as places
+use Rattle.layout.proofs.RulePlaces as in-words
 use Rattle.grammar.proofs.RuleNumbers.{rule-number}
 use Rattle.layout.proofs.RulesByNumber.{right-whole}
 use Rattle.layout.proofs.RulesInView.{viewed-rule}
@@ -50,12 +50,12 @@ module _ {words places table : List ℕ} {n : ℕ} {g : Grammar} (known : Known 
     rule-stands =
         let (A, w, r) = viewed-rule (known .view) k h in
         let begin = known .view .begin k h in
-        let count = places.count-stands words g (known .view .is) k A w (r .stands) in
+        let count = in-words.count-stands words g (known .view .is) k A w (r .stands) in
         let same = ap (λ (p : ℕ). countAt words p) begin in
         record {
           number = number-low known h;
           few = few-words;
-          whole = omega (arith, begin, same, count, places.rule-within words g (known .view .is) k A w (r .stands));
+          whole = omega (arith, begin, same, count, in-words.rule-within words g (known .view .is) k A w (r .stands));
         }
 
   pub nonterminal-low : (A : ℕ) → A < n → A < 128

@@ -13,7 +13,7 @@ use Rattle.grammar.specs.Words.{Grammar, layout, reads}
 use Rattle.grammar.specs.Derivation.{Start}
 use Rattle.grammar.proofs.LayoutExact.{layout-exact, in-bounds}
 use Rattle.grammar.proofs.WordsFew.{words-few}
-use Rattle.layout.proofs.RulePlaces as places
+use Rattle.layout.proofs.RulePlaces as in-words
 use Rattle.grammar.specs.Replaying.{stopped, replayed, replay}
 use Rattle.grammar.proofs.Replay.{replay-exact, replay-stops}
 use Rattle.layout.specs.View.{View}
@@ -123,7 +123,7 @@ ground {ws} {places} {list} {n} {rules} {g} view few = record {
   few-numbers = few;
   whole = λ k l.
       let (A, w, r) = viewed-rule view k l in
-      let within = places.rule-within ws g (view .is) k A w (r .stands) in
+      let within = in-words.rule-within ws g (view .is) k A w (r .stands) in
       omega (arith, view .begin k (omega (arith, view .all-rules)), counted view r, within);
 }
 

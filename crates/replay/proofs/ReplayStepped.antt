@@ -7,7 +7,7 @@ use native.Mathlib.Omega.{arith}
 use lib.ListN.{length, getD, drop, length-append}
 use Rattle.grammar.specs.Words.{Grammar, RuleAt, placeOf}
 use Rattle.layout.specs.Walk.{countAt}
-use Rattle.layout.proofs.RulePlaces as places
+use Rattle.layout.proofs.RulePlaces as in-words
 use Rattle.grammar.proofs.RuleNumbers.{rule-number}
 use Rattle.grammar.specs.Replaying.{derived, stopped, replayed}
 use Rattle.layout.specs.View.{View}
@@ -23,13 +23,13 @@ module _ {ws places : List ℕ} {n rules : ℕ} {g : Grammar} (view : View ws pl
     (r : RuleAt g k A w) where
   pub counted : countAt ws (getD places k 0) ≡ length w
   counted =
-      ap (λ (p : ℕ). countAt ws p) (view .begin k (rule-number r)) ∙ places.count-stands ws g (view .is) k A w (r .stands)
+      ap (λ (p : ℕ). countAt ws p) (view .begin k (rule-number r)) ∙ in-words.count-stands ws g (view .is) k A w (r .stands)
 
   right-side : side ws (getD places k 0 + 2) (countAt ws (getD places k 0)) ≡ w
   right-side =
       ap (λ (m : ℕ). side ws (getD places k 0 + 2) m) counted ∙
       ap (λ (p : ℕ). side ws (p + 2) (length w)) (view .begin k (rule-number r)) ∙
-      side-is ws w (placeOf g k + 2) (places.symbol-stands ws g (view .is) k A w (r .stands))
+      side-is ws w (placeOf g k + 2) (in-words.symbol-stands ws g (view .is) k A w (r .stands))
 
 module _ {ws list stack : List ℕ} {o : Open} (kept : Kept ws list stack o) where
   abbrev first : ℕ

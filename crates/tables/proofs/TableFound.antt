@@ -78,8 +78,8 @@ module _ (g : Grammar) (ok : InBounds g) (vs us sizes totals chosen leads : List
   place-fits {A} {k} {i} (B, w, r, h, e) =
       record { k = k; i = i; is = refl; B = B; w = w; rule = r; holds = h; same = e ∙ sym (total-of r) }
 
-  leads : {A q : ℕ} (f : PlaceFits g vs us totals A q) → Leading g v u A (f .k) (f .i)
-  leads f = (f .B, f .w, f .rule, f .holds, f .same ∙ total-of (f .rule))
+  leads-to : {A q : ℕ} (f : PlaceFits g vs us totals A q) → Leading g v u A (f .k) (f .i)
+  leads-to f = (f .B, f .w, f .rule, f .holds, f .same ∙ total-of (f .rule))
 
   place-below : {A k i : ℕ} → Leading g v u A k i → 32 * k + i < 32 * R g
   place-below {A} {k} {i} (B, w, r, h, e) = omega (arith, rule-number r, holds-few i A r h)
@@ -98,7 +98,7 @@ module _ (g : Grammar) (ok : InBounds g) (vs us sizes totals chosen leads : List
       let k-is : contextRule (figure leads A) ≡ z .k = or-some _ _ some ∙ omega arith in
       let i-is : contextPlace (figure leads A) ≡ z .i = or-some _ _ some ∙ omega arith in
       rw (k-is, i-is) (record {
-        such = leads z;
+        such = leads-to z;
         first = λ j h a.
             let le = f .least (32 * j + h) (place-fits a) in
             before (z .k) (z .i) j h short (holds-few h A (a .2) (a .3)) (omega arith);

@@ -81,13 +81,13 @@ pub fn test(words: &[u16], table: &[u16]) -> Testing
         } => {
             let tested = test_grammar(words, &reading.places, nonterminals, start, rules, table);
             let places = reading.places;
-            return with_starts(tested, places);
+            return with_places(tested, places);
         }
     }
 }
 
 // An answer, with where the rules stand if the table is the grammar's own.
-fn with_starts(answer: TableTest, places: [u16; 256]) -> Testing
+fn with_places(answer: TableTest, places: [u16; 256]) -> Testing
     ensures { λ r. ⌜ (r .answer ≡ answer) × (r .places ≡ placesWith answer places) ⌝ }
 {
     match answer {

@@ -22,8 +22,8 @@ test-grammar-requires c κs =
     let read = c .before .before .before .before .before .read in
     begun-of _ (read .ensures .0) (read .ensures .1) (c .before .before .before .answer2 .given .1)
 
-with-starts-requires : tie.Need-with-starts-requires
-with-starts-requires c κs = search needs
+with-places-requires : tie.Need-with-places-requires
+with-places-requires c κs = search needs
 
 returns : tie.Need-returns
 returns c =
@@ -45,5 +45,5 @@ test-spec =
     returns
     enum-known-answer-2
     test-grammar-requires
-    with-starts-requires
+    with-places-requires
     returns-2)

@@ -66,8 +66,8 @@ choose-rules-requires c κs =
     let searched = c .before .before .before .before in
     omega (arith, view-few (searched .before .before .before .before .before .before .before .before .before .pre .view))
 
-slice-aggregate-choose-leads : tie.Need-slice-aggregate-choose-leads
-slice-aggregate-choose-leads c = search needs
+slice-aggregate-choose-places : tie.Need-slice-aggregate-choose-places
+slice-aggregate-choose-places c = search needs
 
 choose-places-requires : tie.Need-choose-places-requires
 choose-places-requires c κs =
@@ -103,7 +103,7 @@ returns-3 c =
     writes p (totals .ensures (p .grammar) _ (p .view)) (search needs) (searched .first-above .ensures) _ _
     (room .before .enum-told .given .1) (room .if1 .left)
     (ruled .choose-rules .ensures (p .grammar) _ (p .view) refl)
-    (c .before .before .before .before .before .before .before .before .choose-leads .ensures (p .grammar) (p .view) refl)
+    (c .before .before .before .before .before .before .before .before .choose-places .ensures (p .grammar) (p .view) refl)
     (c .before .before .write .ensures)
 
 pub of-contexts-spec : {M : Type 1} → statement M
@@ -124,7 +124,7 @@ of-contexts-spec =
     returns-2
     slice-aggregate-choose-rules
     choose-rules-requires
-    slice-aggregate-choose-leads
+    slice-aggregate-choose-places
     choose-places-requires
     slice-aggregate-write
     slice-aggregate-write-2
