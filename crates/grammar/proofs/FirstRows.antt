@@ -1,17 +1,21 @@
--- What all promises over a grammar begin with, as gates: row 4, which asks what grammar the words are, then rows 5, 6 and 7,
--- which judge it. `answer` is the outcome of a refusal and `Rest` what the rows after them allow, so that each promise settles as
--- soon as its own rows do. Assumes nothing.
+-- What all promises over a grammar begin with. Row 4 asks what grammar the words are (`OfWords`), rows 5, 6 and 7 judge it
+-- (`OfAccepted`): words are refused in one way only, and what is refused is no accepted grammar. So each promise settles as soon
+-- as its own rows do. Assumes nothing.
 use Prim.Native.Nat.{ℕ}
 use native.Mathlib.Omega.{arith}
-use mathlib.Core.Path.{_≡_, ap, subst}
+use mathlib.Core.Path.{_≡_, refl, sym, ap, subst, _∙_}
+use mathlib.Core.Logic.{_⊎_, inl, inr}
 use mathlib.Core.List.{List}
+use Rattle.answers.specs.GrammarRefusals.{GrammarRefusal}
+use Rattle.answers.specs.GrammarRefusals as row
 use Rattle.answers.specs.Refusals.{Refusal, no-tree, unreached, oversize}
 use Rattle.grammar.specs.Words.{Grammar, layout, reads, faults}
-use Rattle.grammar.specs.Terms.{limit}
+use Rattle.grammar.specs.Terms as terms
 use Rattle.grammar.specs.Refusals.{Lowest, NoTree, AllTrees, Unreached, AllReached, Oversize, AllFit, Accepted}
+use Rattle.grammar.specs.Rows.{GrammarRefused, row-4, row-5, row-6, row-7}
 use Rattle.grammar.proofs.LayoutExact.{rule-below, reads-unique}
 use Rattle.grammar.proofs.Unique.{lowest-unique, total-unique}
-use Rattle.answers.proofs.Gates.{Gate, go, Settles, gate-settles}
+use Rattle.answers.proofs.Gates.{Gate, stop, go, Settles, gate-settles}
 
 -- words break at one place, and are no grammar then
 faults-unique : (ws : List ℕ) {p q : ℕ} → layout ws ≡ faults p → layout ws ≡ faults q → p ≡ q
@@ -34,16 +38,76 @@ words-settle words broken Rows rows o o′ (grammar {g = g} e a) (grammar e′ b
     rows g o o′ a (subst (λ (k : Grammar). Rows k o′) (reads-unique words e′ e) b)
 
 -- a Total above the limit and one within it are not the same rule's
-pub not-fit : (g : Grammar) (r : ℕ) → Lowest (Oversize limit g) r → AllFit limit g → ⊥
+pub not-fit : {limit : ℕ} (g : Grammar) (r : ℕ) → Lowest (Oversize limit g) r → AllFit limit g → ⊥
 not-fit g r low fit =
     let o = low .such in
     let f = fit r (rule-below (g .rules) r _ (o .is .rule .rule .stands)) in
     omega (arith, total-unique (o .is) (f .is), o .above, f .within)
 
--- 5, 6, 7
+-- what rows 4 to 7 come to: a refusal, or none
+abbrev Verdict : Type 0
+Verdict = GrammarRefusal ⊎ Unit {0}
+
+module _ (limit : ℕ) (words : List ℕ) where
+  -- rows 5, 6 and 7 as gates
+  abbrev Judged : Grammar → Verdict → Type 0
+  Judged g =
+      Gate (Lowest (NoTree g)) (AllTrees g) (λ A. inl (row.no-tree A))
+      (Gate (Lowest (Unreached g)) (AllReached g) (λ A. inl (row.unreached A))
+      (Gate (Lowest (Oversize limit g)) (AllFit limit g) (λ r. inl (row.oversize r))
+      (λ v. v ≡ inr tt)))
+
+  judged-settles : (g : Grammar) → Settles (Judged g)
+  judged-settles g =
+      gate-settles (λ A. inl (row.no-tree A)) (λ x y. lowest-unique) (λ x a b. a .such .none (b x (a .such .nonterminal)))
+      (gate-settles (λ A. inl (row.unreached A)) (λ x y. lowest-unique) (λ x a b. a .such .never (b x (a .such .nonterminal)))
+      (gate-settles (λ r. inl (row.oversize r)) (λ x y. lowest-unique) (not-fit g)
+      (λ v v′ a b. a ∙ sym b)))
+
+  -- and row 4 before them
+  abbrev InOrder : Verdict → Type 0
+  InOrder = OfWords words (λ p. inl (row.broken-layout p)) Judged
+
+  in-order : {x : GrammarRefusal} → GrammarRefused limit words x → InOrder (inl x)
+  in-order (row-4 e) = fault e
+  in-order (row-5 e low) = grammar e (stop low)
+  in-order (row-6 e t low) = grammar e (go t (stop low))
+  in-order (row-7 e t u low) = grammar e (go t (go u (stop low)))
+
+  passed : {g : Grammar} → layout words ≡ reads g → Accepted limit g → InOrder (inr tt)
+  passed e a = grammar e (go (a .trees) (go (a .reached) (go (a .fit) refl)))
+
+  one-verdict : Settles InOrder
+  one-verdict = words-settle words (λ p. inl (row.broken-layout p)) Judged judged-settles
+
+  -- ONE WAY ONLY
+  pub refused-unique : {x y : GrammarRefusal} → GrammarRefused limit words x → GrammarRefused limit words y → x ≡ y
+  refused-unique {x} {y} a b = let same = one-verdict (inl x) (inl y) (in-order a) (in-order b) in cc
+
+  pub refused-or-accepted : {x : GrammarRefusal} {g : Grammar} → GrammarRefused limit words x → layout words ≡ reads g →
+      Accepted limit g → ⊥
+  refused-or-accepted {x} a e ok =
+      let same = one-verdict (inl x) (inr tt) (in-order a) (passed e ok) in
+      let z : _≡_ {A = ℕ} 0 1 = cc in omega arith
+
+-- a refusal by rows 4 to 7, with its outcome, or an accepted grammar and an outcome of its rows
+pub data OfAccepted {Out : Type 0} (limit : ℕ) (words : List ℕ) (refuse : GrammarRefusal → Out) (Rows : Grammar → Out → Type 0) :
+    Out → Type 0 where
+  refused : {x : GrammarRefusal} → GrammarRefused limit words x → OfAccepted limit words refuse Rows (refuse x)
+  accepted : {g : Grammar} {o : Out} → layout words ≡ reads g → Accepted limit g → Rows g o → OfAccepted limit words refuse Rows o
+
+pub accepted-settle : {Out : Type 0} (limit : ℕ) (words : List ℕ) (refuse : GrammarRefusal → Out) (Rows : Grammar → Out → Type 0) →
+    ((g : Grammar) → Settles (Rows g)) → Settles (OfAccepted limit words refuse Rows)
+accepted-settle limit words refuse Rows rows _ _ (refused a) (refused b) = ap refuse (refused-unique limit words a b)
+accepted-settle limit words refuse Rows rows _ o′ (refused a) (accepted e ok b) = absurd (refused-or-accepted limit words a e ok)
+accepted-settle limit words refuse Rows rows o _ (accepted e ok a) (refused b) = absurd (refused-or-accepted limit words b e ok)
+accepted-settle limit words refuse Rows rows o o′ (accepted {g = g} e ok a) (accepted e′ ok′ b) =
+    rows g o o′ a (subst (λ (k : Grammar). Rows k o′) (reads-unique words e′ e) b)
+
+-- For promises that list rows 5 to 7 themselves.
 module _ {Out : Type 0} (answer : Refusal → Out) (g : Grammar) (Rest : Out → Type 0) where
   abbrev pub FromSeven : Out → Type 0
-  FromSeven = Gate (Lowest (Oversize limit g)) (AllFit limit g) (λ r. answer (oversize r)) Rest
+  FromSeven = Gate (Lowest (Oversize terms.limit g)) (AllFit terms.limit g) (λ r. answer (oversize r)) Rest
 
   abbrev pub FromSix : Out → Type 0
   FromSix = Gate (Lowest (Unreached g)) (AllReached g) (λ A. answer (unreached A)) FromSeven
@@ -52,7 +116,7 @@ module _ {Out : Type 0} (answer : Refusal → Out) (g : Grammar) (Rest : Out →
   FromFive = Gate (Lowest (NoTree g)) (AllTrees g) (λ A. answer (no-tree A)) FromSix
 
   -- the rows after 7 decide what is accepted
-  pub past-seven : {o : Out} → Accepted limit g → Rest o → FromFive o
+  pub past-seven : {o : Out} → Accepted terms.limit g → Rest o → FromFive o
   past-seven a rest = go (a .trees) (go (a .reached) (go (a .fit) rest))
 
   pub five-settles : Settles Rest → Settles FromFive

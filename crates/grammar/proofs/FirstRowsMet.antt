@@ -1,17 +1,19 @@
--- No grammar falls between rows 4 to 7: words break or are a grammar within bounds, and of such a grammar each row stops or goes
+-- No words fall between rows 4 to 7: words break or are a grammar within bounds, and of such a grammar each row refuses or goes
 -- on, so that there is an outcome as soon as the rest has one. Assumes nothing.
 use Prim.Native.Nat.{ℕ}
 use mathlib.Core.Path.{_≡_, refl}
 use mathlib.Core.Logic.{_⊎_, inl, inr}
 use mathlib.Core.List.{List}
+use Rattle.answers.specs.GrammarRefusals.{GrammarRefusal}
 use Rattle.answers.specs.Refusals.{Refusal, no-tree, unreached, oversize}
-use Rattle.grammar.specs.Words.{Grammar, Judged, layout, reads, faults, InBounds}
-use Rattle.grammar.specs.Terms.{limit}
+use Rattle.grammar.specs.Words.{Grammar, Judged, layout, reads, faults, Are, InBounds}
+use Rattle.grammar.specs.Terms as terms
 use Rattle.grammar.specs.Refusals.{Lowest, NoTree, AllTrees, Unreached, AllReached, Oversize, AllFit, Accepted}
+use Rattle.grammar.specs.Rows.{GrammarRefused, row-4, row-5, row-6, row-7}
 use Rattle.grammar.proofs.LayoutExact.{in-bounds}
 use Rattle.grammar.proofs.Decided.{trees?, all-reached?, all-fit?}
 use Rattle.answers.proofs.Gates.{stop, go}
-use Rattle.grammar.proofs.FirstRows.{OfWords, fault, grammar, FromFive, FromSix, FromSeven, not-fit}
+use Rattle.grammar.proofs.FirstRows.{OfWords, fault, grammar, OfAccepted, refused, accepted, FromFive, FromSix, FromSeven}
 
 pub words-met : {Out : Type 0} (words : List ℕ) (broken : ℕ → Out) (Rows : Grammar → Out → Type 0) →
     ((g : Grammar) → InBounds g → (o : Out) × Rows g o) → (o : Out) × OfWords words broken Rows o
@@ -21,29 +23,53 @@ words-met {Out} words broken Rows rows = judged (layout words) refl
     judged (faults p) e = (broken p, fault e)
     judged (reads g) e = let (o, z) = rows g (in-bounds words e) in (o, grammar e z)
 
+-- one of rows 4 to 7 refuses the words, or they are an accepted grammar
+pub refused? : (limit : ℕ) (words : List ℕ) → ((x : GrammarRefusal) × GrammarRefused limit words x) ⊎ Are words (Accepted limit)
+refused? limit words = four (layout words) refl
+  where
+    Verdict : Type 0
+    Verdict = ((x : GrammarRefusal) × GrammarRefused limit words x) ⊎ Are words (Accepted limit)
+
+    seven : (g : Grammar) → layout words ≡ reads g → AllTrees g → AllReached g →
+        AllFit limit g ⊎ ((r : ℕ) × Lowest (Oversize limit g) r) → Verdict
+    seven g e t u (inl f) = inr (g, e, record { trees = t; reached = u; fit = f })
+    seven g e t u (inr (r, low)) = inl (_, row-7 e t u low)
+
+    six : (g : Grammar) → layout words ≡ reads g → AllTrees g → AllReached g ⊎ ((A : ℕ) × Lowest (Unreached g) A) → Verdict
+    six g e t (inl u) = seven g e t u (all-fit? limit g (in-bounds words e) t u)
+    six g e t (inr (A, low)) = inl (_, row-6 e t low)
+
+    five : (g : Grammar) → layout words ≡ reads g → AllTrees g ⊎ ((A : ℕ) × Lowest (NoTree g) A) → Verdict
+    five g e (inl t) = six g e t (all-reached? g t)
+    five g e (inr (A, low)) = inl (_, row-5 e low)
+
+    four : (j : Judged Grammar) → layout words ≡ j → Verdict
+    four (faults p) e = inl (_, row-4 e)
+    four (reads g) e = five g e (trees? g)
+
+pub accepted-met : {Out : Type 0} (limit : ℕ) (words : List ℕ) (refuse : GrammarRefusal → Out) (Rows : Grammar → Out → Type 0) →
+    ((g : Grammar) → InBounds g → Accepted limit g → (o : Out) × Rows g o) → (o : Out) × OfAccepted limit words refuse Rows o
+accepted-met {Out} limit words refuse Rows rows = of-words (refused? limit words)
+  where
+    of-words : ((x : GrammarRefusal) × GrammarRefused limit words x) ⊎ Are words (Accepted limit) →
+        (o : Out) × OfAccepted limit words refuse Rows o
+    of-words (inl (x, r)) = (refuse x, refused r)
+    of-words (inr (g, e, a)) = let (o, z) = rows g (in-bounds words e) a in (o, accepted e a z)
+
+-- For promises that list rows 5 to 7 themselves.
 module _ {Out : Type 0} (answer : Refusal → Out) (g : Grammar) (ok : InBounds g) (Rest : Out → Type 0) where
-  pub five-met : (Accepted limit g → (o : Out) × Rest o) → (o : Out) × FromFive answer g Rest o
+  pub five-met : (Accepted terms.limit g → (o : Out) × Rest o) → (o : Out) × FromFive answer g Rest o
   five-met rest = five (trees? g)
     where
-      seven : AllTrees g → AllReached g → AllFit limit g ⊎ ((r : ℕ) × Lowest (Oversize limit g) r) →
+      seven : AllTrees g → AllReached g → AllFit terms.limit g ⊎ ((r : ℕ) × Lowest (Oversize terms.limit g) r) →
           (o : Out) × FromSeven answer g Rest o
       seven t u (inl f) = let (o, z) = rest (record { trees = t; reached = u; fit = f }) in (o, go f z)
       seven t u (inr (r, low)) = (answer (oversize r), stop low)
 
       six : AllTrees g → AllReached g ⊎ ((A : ℕ) × Lowest (Unreached g) A) → (o : Out) × FromSix answer g Rest o
-      six t (inl u) = let (o, z) = seven t u (all-fit? limit g ok t u) in (o, go u z)
+      six t (inl u) = let (o, z) = seven t u (all-fit? terms.limit g ok t u) in (o, go u z)
       six t (inr (A, low)) = (answer (unreached A), stop low)
 
       five : AllTrees g ⊎ ((A : ℕ) × Lowest (NoTree g) A) → (o : Out) × FromFive answer g Rest o
       five (inl t) = let (o, z) = six t (all-reached? g t) in (o, go t z)
       five (inr (A, low)) = (answer (no-tree A), stop low)
-
--- so it can be said whether a grammar is accepted
-pub accepted? : (g : Grammar) → InBounds g → Dec (Accepted limit g)
-accepted? g ok = decide (five-met {Out = Unit {0}} (λ r. tt) g ok (λ o. Accepted limit g) (λ a. (tt, a)) .1)
-  where
-    decide : {o : Unit {0}} → FromFive (λ r. tt) g (λ o. Accepted limit g) o → Dec (Accepted limit g)
-    decide (stop low) = no (λ a. low .such .none (a .trees _ (low .such .nonterminal)))
-    decide (go t (stop low)) = no (λ a. low .such .never (a .reached _ (low .such .nonterminal)))
-    decide (go t (go u (stop low))) = no (λ a. not-fit g _ low (a .fit))
-    decide (go t (go u (go f a))) = yes a
