@@ -11,7 +11,7 @@ use lib.Seq.{sets, sets-eq}
 use Rattle.answers.specs.Buffers.{over}
 use Rattle.grammar.specs.Words.{Grammar, RuleAt}
 use Rattle.grammar.specs.Tree.{Forest, sentences, derivations}
-use Rattle.grammar.specs.Measure.{plain}
+use Rattle.grammar.specs.Terms.{measure}
 use Rattle.grammar.specs.Least.{ChosenForest}
 use Rattle.grammar.proofs.SameListing.{same-forest}
 use Rattle.layout.proofs.RulesInView.{viewed-right}
@@ -22,11 +22,11 @@ module _ {words places table : List ℕ} {n : ℕ} {g : Grammar} (known : Known 
   module _ {a b x y : List ℕ} {p q : Lengths} where
     -- LISTER: the rule's number, and every chosen forest of its symbols
     pub rule-written : {k A : ℕ} {w : List ℕ} → RuleWritten words places table n k a b x y p q → RuleAt g k A w →
-        (f : Forest g w) → ChosenForest plain g f → Wrote (sentences f) (k ∷ derivations f) a b x y p q
+        (f : Forest g w) → ChosenForest measure g f → Wrote (sentences f) (k ∷ derivations f) a b x y p q
     rule-written h rule f chosen =
         let l = h .listed g known in
         let m = l .lists .symbols in
-        let same = same-forest plain (m .forest) (viewed-right (known .view) rule) f (m .chosen) chosen in
+        let same = same-forest measure (m .forest) (viewed-right (known .view) rule) f (m .chosen) chosen in
         rw (← same .sentences-same, ← same .derivations-same, ← m .tokens, ← m .rules, ← l .lists .is) (l .wrote)
 
 -- written from the front on, where there is room

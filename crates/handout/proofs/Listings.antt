@@ -11,7 +11,7 @@ use borrow.Author.Tests.{lt-ltb, le-ltb}
 use Rattle.answers.proofs.Stores.{sets-append}
 use Rattle.grammar.specs.Words.{Grammar, R, RuleAt}
 use Rattle.grammar.specs.Tree.{Forest, nil, leaf, child, sentence, sentences, derivation, derivations}
-use Rattle.grammar.specs.Measure.{plain}
+use Rattle.grammar.specs.Terms.{measure}
 use Rattle.grammar.specs.Least.{Least, RuleSize, Chosen, ChosenForest}
 use Rattle.grammar.specs.Certificates.{symbolSize, wordSize}
 use Rattle.grammar.proofs.Certificate.{word-sizes}
@@ -39,7 +39,7 @@ nothing a x p = record { more-tokens = omega arith; more-rules = omega arith; se
 
 -- the symbols of w listed, and then one more
 module _ {g : Grammar} where
-  pub one-more : {w : List ℕ} (f : Forest g w) {s : ℕ} {us vs : List ℕ} → ChosenForest plain g f → SymbolListed g s us vs →
+  pub one-more : {w : List ℕ} (f : Forest g w) {s : ℕ} {us vs : List ℕ} → ChosenForest measure g f → SymbolListed g s us vs →
       SymbolsListed g (w ++ s ∷ []) (sentences f ++ us) (derivations f ++ vs)
   one-more nil h (of-terminal p) = record { forest = leaf p nil; chosen = h; tokens = refl; rules = refl }
   one-more nil h (of-nonterminal t d) = record {
@@ -89,36 +89,36 @@ module _ (n : ℕ) (table : List ℕ) where
   least-size s h = rw (lt-ltb s n h)
 
 -- the sizes are the grammar's, and a nonterminal's is 1 plus those of its chosen rule's symbols
-sizes-are : (g : Grammar) (table w : List ℕ) → wordSize plain g (λ A. entry table A 0) w ≡ sizesBy (g .N) table w
+sizes-are : (g : Grammar) (table w : List ℕ) → wordSize measure g (λ A. entry table A 0) w ≡ sizesBy (g .N) table w
 unfolding sizesBy sizeBy wordSize symbolSize
 sizes-are g table [] = refl
 sizes-are g table (s ∷ w) = ap (λ x. sizeBy (g .N) table s + x) (sizes-are g table w)
 
 module _ {words places table : List ℕ} {n : ℕ} {g : Grammar} (known : Known words places table n g) where
-  known-least : (A : ℕ) → A < g .N → Least plain g A (entry table A 0)
+  known-least : (A : ℕ) → A < g .N → Least measure g A (entry table A 0)
   known-least A lt = rw (entry-front g table A 0 lt (omega arith)) at (known .tabled .leasts A lt)
 
-  pub known-chosen : (A : ℕ) → A < g .N → Chosen plain g A (entry table A 1)
+  pub known-chosen : (A : ℕ) → A < g .N → Chosen measure g A (entry table A 1)
   known-chosen A lt = rw (entry-front g table A 1 lt (omega arith)) at (known .tabled .chosen A lt)
 
   -- a rule's size is 1 plus those of its symbols as the lister reads them
-  pub rule-size-by : {A k x : ℕ} → RuleSize plain g A k x → x ≡ 1 + sizesBy n table (rightOf words places k)
+  pub rule-size-by : {A k x : ℕ} → RuleSize measure g A k x → x ≡ 1 + sizesBy n table (rightOf words places k)
   rule-size-by r =
       let right = viewed-right (known .view) (r .rule) in
-      let others = sizes-unique (r .sizes) (word-sizes plain g (λ A. entry table A 0) known-least (r .w)) in
+      let others = sizes-unique (r .sizes) (word-sizes measure g (λ A. entry table A 0) known-least (r .w)) in
       let sizes = sizes-are g table (r .w) ∙ ap (λ m. sizesBy m table (r .w)) (sym (known .view .nonterminals)) in
       omega (arith, r .is, others, sizes, ap (sizesBy n table) right)
 
   -- the chosen rule of s, with its right side as the lister reads it
   pub record ChosenRule (s k : ℕ) : Type 0 where
     pub rule : RuleAt g k s (rightOf words places k)
-    pub chosen : Chosen plain g s k
+    pub chosen : Chosen measure g s k
     pub size : sizeBy n table s ≡ 1 + sizesBy n table (rightOf words places k)
 
   pub chosen-rule : (s k : ℕ) → s < n → k ≡ entry table s 1 → ChosenRule s k
   chosen-rule s k h e =
       let lt : s < g .N = omega (arith, known .view .nonterminals) in
-      let c : Chosen plain g s k = rw (← e) at (known-chosen s lt) in
+      let c : Chosen measure g s k = rw (← e) at (known-chosen s lt) in
       let figure = least-unique (c .least) (known-least s lt) in
       let rule = c .attains .rule in
       record {

@@ -16,6 +16,7 @@ use Rattle.replay.specs.declared.ReplayAnswer.the-variants.{Done}
 use Rattle.tables.specs.Table.{HasTable}
 use Rattle.tables.specs.Dead.{Dead}
 use Rattle.grammar.specs.Words.{Are}
+use Rattle.grammar.specs.Terms.{limit}
 use Rattle.handout.specs.Next as next
 use Rattle.handout.specs.Next.{NextPromise, Lent}
 use Rattle.handout.specs.Given.{Given, GivenFinished, GivenNext, Handed, SaysDead}
@@ -112,10 +113,10 @@ pub night-covers : {words table : List ℕ} {hs : List Handout} {g : Grammar} �
 night-covers = NightCovers.night-covers
 
 -- With the table, marks for all rules and room for 4,096 numbers in each buffer no call is refused, and a night does end.
-pub never-refused : (words table : List ℕ) {g : Grammar} → layout words ≡ reads g → Accepted g → HasTable g table →
+pub never-refused : (words table : List ℕ) {g : Grammar} → layout words ≡ reads g → Accepted limit g → HasTable g table →
     {before after : Lent} {o : NextAnswer} → Enough g before → NextPromise words table before o after → GoesOn o
 never-refused = NightEnds.never-refused
 
-pub night-ends : (words table : List ℕ) {g : Grammar} → layout words ≡ reads g → Accepted g → HasTable g table →
-    (tokens rules : List ℕ) → 4096 ≤ length tokens → 4096 ≤ length rules → (hs : List Handout) × Over words table hs
+pub night-ends : (words table : List ℕ) {g : Grammar} → layout words ≡ reads g → Accepted limit g → HasTable g table →
+    (tokens rules : List ℕ) → limit ≤ length tokens → limit ≤ length rules → (hs : List Handout) × Over words table hs
 night-ends = NightEnds.night-ends

@@ -10,7 +10,7 @@ use mathlib.Core.List.{List}
 use lib.ListN.{length}
 use Rattle.grammar.specs.Words.{Grammar, R, layout, reads}
 use Rattle.grammar.specs.Tree.{Tree, sentence, derivation}
-use Rattle.grammar.specs.Measure.{plain}
+use Rattle.grammar.specs.Terms.{measure, limit}
 use Rattle.grammar.specs.Refusals.{Lowest, Accepted}
 use Rattle.grammar.proofs.LayoutExact.{in-bounds}
 use Rattle.grammar.proofs.TreeOfExists.{tree-of-exists}
@@ -25,10 +25,10 @@ use Rattle.handout.specs.declared.NextAnswer.{NextAnswer}
 use Rattle.handout.proofs.MarksSettled.{marks-exist, unused?}
 
 -- the target of an accepted grammar has its tree
-pub wanted-exists : {ws table marks : List ℕ} {g : Grammar} {r : ℕ} → layout ws ≡ reads g → Accepted g → HasTable g table →
+pub wanted-exists : {ws table marks : List ℕ} {g : Grammar} {r : ℕ} → layout ws ≡ reads g → Accepted limit g → HasTable g table →
     R g ≤ length marks → Lowest (Unused g marks) r → (t : Tree g (g .start)) × Wanted ws table marks g r t
 wanted-exists {ws} {g = g} {r = r} e a h l low =
-    let (t, o) = tree-of-exists plain g (in-bounds ws e) (a .trees) (a .reached) r (low .such .rule) in
+    let (t, o) = tree-of-exists measure g (in-bounds ws e) (a .trees) (a .reached) r (low .such .rule) in
     (t, record { grammar = e; accepted = a; tabled = h; marked = l; target = low; tree = o })
 
 module _ (ws table : List ℕ) (before : Lent) where
@@ -42,7 +42,7 @@ module _ (ws table : List ℕ) (before : Lent) where
   hand t w (no l) (yes m) = (_, _, row-10 w (omega arith) m)
   hand t w (no l) (no m) = (_, _, next w (omega arith) (omega arith) (marks-exist (derivation t) (before .marks) .1))
 
-  module _ {g : Grammar} (e : layout ws ≡ reads g) (a : Accepted g) where
+  module _ {g : Grammar} (e : layout ws ≡ reads g) (a : Accepted limit g) where
     target : HasTable g table → R g ≤ length (before .marks) →
         AllUsed g (before .marks) ⊎ ((r : ℕ) × Lowest (Unused g (before .marks)) r) → Met
     target h l (inl u) = (_, _, finished e a h l u)
@@ -60,7 +60,7 @@ module _ (ws table : List ℕ) (before : Lent) where
 
   -- what rows 4 to 7 come to: one of them is met, or the grammar is accepted
   abbrev Rows : Grammar → Unit {0} → Type 0
-  Rows g = FromFive (λ r. tt) g (λ o. Accepted g)
+  Rows g = FromFive (λ r. tt) g (λ o. Accepted limit g)
 
   met : {o : Unit {0}} → OfWords ws (λ p. tt) Rows o → Met
   met (fault e) = (_, _, row-4 e)
@@ -71,4 +71,4 @@ module _ (ws table : List ℕ) (before : Lent) where
 
   -- AT LEAST ONE
   pub next-met : (a : NextAnswer) × (after : Lent) × NextPromise ws table before a after
-  next-met = met (words-met ws (λ p. tt) Rows (λ g ok. five-met (λ r. tt) g ok (λ o. Accepted g) (λ a. (tt, a))) .1)
+  next-met = met (words-met ws (λ p. tt) Rows (λ g ok. five-met (λ r. tt) g ok (λ o. Accepted limit g) (λ a. (tt, a))) .1)

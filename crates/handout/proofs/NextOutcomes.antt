@@ -9,7 +9,7 @@ use Rattle.answers.specs.Buffers.{over}
 use Rattle.grammar.specs.Words.{layout}
 use Rattle.grammar.specs.Words as W
 use Rattle.grammar.specs.Tree.{Tree, sentence, derivation}
-use Rattle.grammar.specs.Measure.{plain}
+use Rattle.grammar.specs.Terms.{measure}
 use Rattle.grammar.specs.Least.{TreeOf}
 use Rattle.grammar.proofs.LayoutExact.{layout-exact, in-bounds}
 use Rattle.layout.proofs.WordsRead.{places-of}
@@ -100,10 +100,10 @@ module _ {words places table : List ℕ} {rules : ℕ} (t : Tabled words places 
 
 -- the target's tree
 module _ {words places table marks : List ℕ} {r : ℕ} (a : Asked words places table marks r) where
-  tree-of : (t : Tree (a .g) (a .g .start)) × TreeOf plain (a .g) r t
+  tree-of : (t : Tree (a .g) (a .g .start)) × TreeOf measure (a .g) r t
   tree-of =
       let ok = in-bounds words (a .known .view .is) in
-      tree-of-exists plain (a .g) ok (a .accepted .trees) (a .accepted .reached) r (a .target .such .rule)
+      tree-of-exists measure (a .g) ok (a .accepted .trees) (a .accepted .reached) r (a .target .such .rule)
 
   wanted : Wanted words table marks (a .g) r (tree-of .0)
   wanted = record {
@@ -154,7 +154,7 @@ module _ {words table places : List ℕ} {n start r : ℕ} where
       total ≤ length rules → TreeFits words places table n start r tokens rules
   fits-total tokens rules e l m = λ g known s t tree.
       let below = rule-number (tree .rule) in
-      let is = total-unique (tree-of-total plain tree) (known .tabled .totals r below) in
+      let is = total-unique (tree-of-total measure tree) (known .tabled .totals r below) in
       let stands = total-front g table r below in
       let same = ap (λ (k : ℕ). getD table (5 * k + r) 0) (known .view .nonterminals) in
       let size = size-is-length t in

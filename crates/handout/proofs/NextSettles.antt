@@ -10,7 +10,7 @@ use Rattle.answers.specs.Refusals.{Refusal, broken-layout, not-its-table, few-m
 use Rattle.answers.specs.Buffers.{over}
 use Rattle.grammar.specs.Words.{Grammar, R, layout, reads}
 use Rattle.grammar.specs.Tree.{Tree, sentence, derivation}
-use Rattle.grammar.specs.Measure.{plain}
+use Rattle.grammar.specs.Terms.{measure, limit}
 use Rattle.grammar.specs.Least.{TreeOf}
 use Rattle.grammar.specs.Refusals.{Lowest, Accepted}
 use Rattle.grammar.proofs.Unique.{lowest-unique}
@@ -28,7 +28,7 @@ use Rattle.handout.proofs.MarksSettled.{marked-unique}
 record Listed (g : Grammar) (marks : List ℕ) (r : ℕ) (s d : List ℕ) : Type 0 where
   target : Lowest (Unused g marks) r
   t : Tree g (g .start)
-  tree : TreeOf plain g r t
+  tree : TreeOf measure g r t
   says : sentence t ≡ s
   lists : derivation t ≡ d
 
@@ -42,10 +42,10 @@ module _ {g : Grammar} {marks s s′ d d′ : List ℕ} {r r′ : ℕ} (a : List
   target-same = lowest-unique (a .target) (b .target)
 
   sentence-same : s ≡ s′
-  sentence-same = sym (a .says) ∙ tree-of-same plain (rw target-same at a.tree) (b .tree) .sentences-same ∙ b .says
+  sentence-same = sym (a .says) ∙ tree-of-same measure (rw target-same at a.tree) (b .tree) .sentences-same ∙ b .says
 
   derivation-same : d ≡ d′
-  derivation-same = sym (a .lists) ∙ tree-of-same plain (rw target-same at a.tree) (b .tree) .derivations-same ∙ b .lists
+  derivation-same = sym (a .lists) ∙ tree-of-same measure (rw target-same at a.tree) (b .tree) .derivations-same ∙ b .lists
 
 module _ (words table : List ℕ) (before : Lent) where
   -- the answer and the three buffers afterwards
@@ -134,7 +134,7 @@ module _ (words table : List ℕ) (before : Lent) where
   Judged = OfWords words (λ p. answer (broken-layout p)) Rows
 
   -- past 7, and past Finished
-  accepted : {g : Grammar} {o : Out} → layout words ≡ reads g → Accepted g → FromEight g o → Judged o
+  accepted : {g : Grammar} {o : Out} → layout words ≡ reads g → Accepted limit g → FromEight g o → Judged o
   accepted {g} e a z = grammar e (past-seven answer g (FromEight g) a z)
 
   wanted : {g : Grammar} {r : ℕ} {t : Tree g (g .start)} {o : Out} → Wanted words table (before .marks) g r t →

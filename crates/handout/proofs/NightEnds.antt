@@ -10,6 +10,7 @@ use lib.ListN.{length, getD, replicate, length-replicate}
 use Rattle.grammar.specs.Words.{Grammar, R, layout, reads}
 use Rattle.grammar.specs.Tree.{sentence, derivation}
 use Rattle.grammar.specs.Refusals.{Lowest, Accepted}
+use Rattle.grammar.specs.Terms.{limit}
 use Rattle.tables.specs.Table.{HasTable}
 use Rattle.handout.specs.Next.{NextPromise, Unused, AllUsed, Lent, finished, next}
 use Rattle.handout.specs.Night.{Handout, Night, clear, later, Over, Enough, GoesOn}
@@ -27,7 +28,7 @@ zeros zero i = refl
 zeros (suc n) zero = refl
 zeros (suc n) (suc i) = zeros n i
 
-module _ (words table : List ℕ) {g : Grammar} (e : layout words ≡ reads g) (a : Accepted g) (h : HasTable g table) where
+module _ (words table : List ℕ) {g : Grammar} (e : layout words ≡ reads g) (a : Accepted limit g) (h : HasTable g table) where
   one-allowed : (before : Lent) → Enough g before →
       (o : NextAnswer) × (after : Lent) × NextPromise words table before o after × GoesOn o
   one-allowed before enough = go (unused? g (before .marks))
@@ -51,7 +52,7 @@ module _ (words table : List ℕ) {g : Grammar} (e : layout words ≡ reads g) (
       let (o, after, allowed, goes-on) = one-allowed before enough in
       rw (next-settles words table before p allowed .0) goes-on
 
-  module _ (tokens rules : List ℕ) (room : 4096 ≤ length tokens) (room-rules : 4096 ≤ length rules) where
+  module _ (tokens rules : List ℕ) (room : limit ≤ length tokens) (room-rules : limit ≤ length rules) where
     record SoFar (hs : List Handout) : Type 0 where
       marks : List ℕ
       night : Night words table hs marks

@@ -11,7 +11,7 @@ use mathlib.Core.List.{List, _∷_}
 use lib.ListN.{length, getD, take}
 use Rattle.grammar.specs.Words.{Grammar, R, layout, reads}
 use Rattle.grammar.specs.Tree.{Tree, sentence, derivation, _∈_}
-use Rattle.grammar.specs.Measure.{plain}
+use Rattle.grammar.specs.Terms.{measure, limit}
 use Rattle.grammar.specs.Least.{TreeOf}
 use Rattle.grammar.specs.Refusals.{Accepted}
 use Rattle.grammar.proofs.Leftmosts.{tree-derives}
@@ -27,11 +27,11 @@ use Rattle.handout.proofs.MarksSettled.{ToSet, mark-cases}
 use Rattle.handout.proofs.NextExact.{next-writes}
 
 -- the tree of a rule of an accepted grammar keeps within the limit
-pub tree-of-limit : {g : Grammar} {r : ℕ} {t : Tree g (g .start)} → Accepted g → r < R g → TreeOf plain g r t →
-    length (sentence t) + length (derivation t) ≤ 4096
+pub tree-of-limit : {g : Grammar} {r : ℕ} {t : Tree g (g .start)} → Accepted limit g → r < R g → TreeOf measure g r t →
+    length (sentence t) + length (derivation t) ≤ limit
 tree-of-limit {r = r} {t = t} a l o =
     let fits = a .fit r l in
-    omega (arith, total-unique (tree-of-total plain o) (fits .is), fits .within, size-is-length t)
+    omega (arith, total-unique (tree-of-total measure o) (fits .is), fits .within, size-is-length t)
 
 -- the marks of g's rules say which rules are used
 abbrev pub Tells : Grammar → List Handout → List ℕ → Type 0
@@ -66,10 +66,10 @@ module _ {words table : List ℕ} {before after : Lent} {r n m : ℕ} {g : Gramm
       rw (h .tokens .front, lists) (record {
         rule = rule;
         derives = tree-derives (h .t);
-        uses = tree-of-uses plain tree;
+        uses = tree-of-uses measure tree;
         new = λ u. tells r rule .0 u (low .such .zero);
         lowest = λ k l. tells k (omega arith) .1 (λ e. omega (arith, low .lowest k (record { rule = omega arith; zero = e })));
-        least = λ u uses. omega (arith, total-smallest plain (tree-of-total plain tree) u uses);
+        least = λ u uses. omega (arith, total-smallest measure (tree-of-total measure tree) u uses);
         limit = tree-of-limit (h .wanted .accepted) rule tree;
       })
 

@@ -8,7 +8,7 @@ use lib.ListN.{length, take, drop, length-append}
 use Rattle.grammar.specs.Words.{Grammar}
 use Rattle.grammar.specs.Tree.{Tree, Forest, node, nil, leaf, child, Gap, here, past-leaf, past-child, Open, root, down}
 use Rattle.grammar.specs.Tree.{fill, plug, sentence, sentences, derivation, derivations}
-use Rattle.grammar.specs.Measure.{plain}
+use Rattle.grammar.specs.Terms.{measure}
 use Rattle.grammar.specs.Least.{ChosenTree, ChosenForest, ChosenGap}
 use Rattle.grammar.proofs.SameListing.{same-forest}
 use Rattle.grammar.proofs.Unique.{chosen-unique}
@@ -55,7 +55,7 @@ module _ {g : Grammar} where
       ∙ around (rulesOn before x) (k ∷ gapRules before a) (derivation t) (gapRules after a) (rulesOn after x)
 
   -- the symbols before and after an open leaf, opened by chosen rules, are listed as what lies there
-  pub before-listed : {w : List ℕ} {i A : ℕ} (a : Gap g w i A) → ChosenGap plain g a →
+  pub before-listed : {w : List ℕ} {i A : ℕ} (a : Gap g w i A) → ChosenGap measure g a →
       SymbolsListed g (take i w) (gapTokens before a) (gapRules before a)
   before-listed (here p f) h = record { forest = nil; chosen = tt; tokens = refl; rules = refl }
   before-listed (past-leaf {s} p a) h =
@@ -70,7 +70,7 @@ module _ {g : Grammar} where
         rules = ap (λ l. derivation t ++ l) (m .rules);
       }
 
-  pub after-listed : {w : List ℕ} {i A : ℕ} (a : Gap g w i A) → ChosenGap plain g a →
+  pub after-listed : {w : List ℕ} {i A : ℕ} (a : Gap g w i A) → ChosenGap measure g a →
       SymbolsListed g (drop (suc i) w) (gapTokens after a) (gapRules after a)
   after-listed (here p f) h = record { forest = f; chosen = h; tokens = refl; rules = refl }
   after-listed (past-leaf p a) h = after-listed a h
@@ -85,7 +85,7 @@ module _ {g : Grammar} where
   -- symbols are listed in one way
   pub listed-same : {w us vs us′ vs′ : List ℕ} → SymbolsListed g w us vs → SymbolsListed g w us′ vs′ → (us ≡ us′) × (vs ≡ vs′)
   listed-same h k =
-      let same = same-forest plain (h .forest) refl (k .forest) (h .chosen) (k .chosen) in
+      let same = same-forest measure (h .forest) refl (k .forest) (h .chosen) (k .chosen) in
       (h .tokens ∙ same .sentences-same ∙ sym (k .tokens), h .rules ∙ same .derivations-same ∙ sym (k .rules))
 
 module _ {words places table : List ℕ} {n : ℕ} {g : Grammar} (known : Known words places table n g) where
@@ -93,14 +93,14 @@ module _ {words places table : List ℕ} {n : ℕ} {g : Grammar} (known : Known 
     unfolding sizesBy
 
     -- the size of symbols is the length of their listing
-    tree-size : {s : ℕ} (t : Tree g s) → ChosenTree plain g t → sizeBy n table s ≡ length (sentence t) + length (derivation t)
+    tree-size : {s : ℕ} (t : Tree g s) → ChosenTree measure g t → sizeBy n table s ≡ length (sentence t) + length (derivation t)
     tree-size (node {A} {w} k r f) h =
         let lt : A < n = omega (arith, r .left, known .view .nonterminals) in
         let e : k ≡ entry table A 1 = chosen-unique (h .0) (known-chosen known A (r .left)) in
         let right = ap (sizesBy n table) (viewed-right (known .view) r) in
         omega (arith, chosen-rule known A k lt e .size, forest-size f (h .1), right)
 
-    forest-size : {w : List ℕ} (f : Forest g w) → ChosenForest plain g f →
+    forest-size : {w : List ℕ} (f : Forest g w) → ChosenForest measure g f →
         sizesBy n table w ≡ length (sentences f) + length (derivations f)
     forest-size nil h = refl
     forest-size (leaf {s} p f) h =

@@ -11,7 +11,7 @@ use lib.ListN.{length, getD, set}
 use lib.Seq.{getD-set-same, getD-set-other}
 use Rattle.grammar.specs.Words.{Grammar, R}
 use Rattle.grammar.specs.Tree.{Open}
-use Rattle.grammar.specs.Measure.{plain}
+use Rattle.grammar.specs.Terms.{measure}
 use Rattle.grammar.specs.Least.{ChosenOpen}
 use Rattle.grammar.proofs.RuleNumbers.{rule-number}
 use Rattle.tables.specs.Table.{entry}
@@ -26,7 +26,7 @@ use Rattle.handout.proofs.TreeListerSteps.{back-ready, after-ready, aft
 -- the context choices lead on from a, so many steps up from A, and by as many fewer contexts are lower
 pub record Reached (table : List ℕ) (n : ℕ) (g : Grammar) (A steps a : ℕ) : Type 0 where
   pub above : Open g a
-  pub follows : ChosenOpen plain g above
+  pub follows : ChosenOpen measure g above
   pub fallen : steps + lower table n (entry table a 2) ≤ lower table n (entry table A 2)
 
 -- what noting them keeps: a is so many steps up from A, and those below it are noted
@@ -35,7 +35,7 @@ pub record OnWay (words places table : List ℕ) (start A : ℕ) (path : List �
   pub noted : (i : ℕ) → i < steps → getD path i 0 ≡ climbed words places table A i
   pub other : (i : ℕ) → i < steps → ¬ (climbed words places table A i ≡ start)
   pub leads : (n : ℕ) (g : Grammar) → Known words places table n g → start ≡ g .start → (x : Open g A) →
-      ChosenOpen plain g x → Reached table n g A steps a
+      ChosenOpen measure g x → Reached table n g A steps a
 
 pub way-begins : (words places table : List ℕ) (start A : ℕ) (path : List ℕ) → OnWay words places table start A path A 0
 unfolding climbed

@@ -7,7 +7,7 @@ use mathlib.Core.Path.{_≡_, refl, ap, sym, _∙_}
 use lib.ListN.{length, getD, take, drop, length-append}
 use Rattle.grammar.specs.Words.{Grammar, RuleAt}
 use Rattle.grammar.specs.Tree.{Gap, here, past-leaf, past-child, Open, root, down}
-use Rattle.grammar.specs.Measure.{plain}
+use Rattle.grammar.specs.Terms.{measure}
 use Rattle.grammar.specs.Least.{Context, ContextChoice, ChosenGap, ChosenOpen}
 use Rattle.grammar.proofs.LayoutExact.{in-bounds}
 use Rattle.grammar.proofs.RuleNumbers.{rule-number, rule-left}
@@ -23,10 +23,10 @@ use Rattle.handout.proofs.Listings.{and-then, nothing}
 use Rattle.handout.proofs.OpenListings.{before-listed, after-listed, gap-within, listed-same, listed-size}
 
 module _ {words places table : List ℕ} {n : ℕ} {g : Grammar} (known : Known words places table n g) where
-  pub known-context : (A : ℕ) → A < g .N → Context plain g A (entry table A 2)
+  pub known-context : (A : ℕ) → A < g .N → Context measure g A (entry table A 2)
   known-context A lt = rw (entry-front g table A 2 lt (omega arith)) at (known .tabled .contexts A lt)
 
-  known-choice : (A : ℕ) → A < g .N → ¬ (A ≡ g .start) → ContextChoice plain g A (entry table A 3) (entry table A 4)
+  known-choice : (A : ℕ) → A < g .N → ¬ (A ≡ g .start) → ContextChoice measure g A (entry table A 3) (entry table A 4)
   known-choice A lt d =
       rw (entry-front g table A 3 lt (omega arith), entry-front g table A 4 lt (omega arith)) at (known .tabled .choices A lt d)
 
@@ -36,9 +36,9 @@ module _ {words places table : List ℕ} {n : ℕ} {g : Grammar} (known : Known 
     pub right : rightOf words places k ≡ w
     pub rule : RuleAt g k B w
     pub above : Open g B
-    pub follows : ChosenOpen plain g above
+    pub follows : ChosenOpen measure g above
     pub gap : Gap g w i A
-    pub chosen : ChosenGap plain g gap
+    pub chosen : ChosenGap measure g gap
     pub falls : entry table B 2 < entry table A 2
     pub tokens-before : tokensOn before x ≡ tokensOn before above ++ gapTokens before gap
     pub rules-before : rulesOn before x ≡ rulesOn before above ++ (k ∷ gapRules before gap)
@@ -50,7 +50,7 @@ module _ {words places table : List ℕ} {n : ℕ} {g : Grammar} (known : Known 
   gap-nonterminal (past-leaf p a) = gap-nonterminal a
   gap-nonterminal (past-child t a) = gap-nonterminal a
 
-  pub up : {A : ℕ} (x : Open g A) → ChosenOpen plain g x → ¬ (A ≡ g .start) → (k i B : ℕ) → k ≡ entry table A 3 →
+  pub up : {A : ℕ} (x : Open g A) → ChosenOpen measure g x → ¬ (A ≡ g .start) → (k i B : ℕ) → k ≡ entry table A 3 →
       i ≡ entry table A 4 → B ≡ getD words (getD places k 0) 0 → Up x k i B
   up root h d k i B ek ei eB = absurd (d refl)
   up (down {A} {B = B′} {i = i′} {w} k′ r x a) h d k i B ek ei eB =
@@ -83,7 +83,7 @@ module _ {words places table : List ℕ} {n : ℕ} {g : Grammar} (known : Known 
   open-nonterminal (down k r x a) = gap-nonterminal a
 
   -- nothing lies beside the start
-  at-start : {A : ℕ} (side : Side) (x : Open g A) → ChosenOpen plain g x → A ≡ g .start →
+  at-start : {A : ℕ} (side : Side) (x : Open g A) → ChosenOpen measure g x → A ≡ g .start →
       (tokensOn side x ≡ []) × (rulesOn side x ≡ [])
   at-start before root h e = (refl, refl)
   at-start after root h e = (refl, refl)

@@ -7,7 +7,7 @@ use mathlib.Core.Path.{_≡_, refl, ap, sym, _∙_}
 use lib.ListN.{length, getD, length-append}
 use Rattle.grammar.specs.Words.{Grammar}
 use Rattle.grammar.specs.Tree.{Tree, node, sentence, sentences, derivation, derivations}
-use Rattle.grammar.specs.Measure.{plain}
+use Rattle.grammar.specs.Terms.{measure, limit}
 use Rattle.grammar.specs.Least.{TreeOf}
 use Rattle.grammar.proofs.LayoutExact.{in-bounds}
 use Rattle.grammar.proofs.SizeIsLength.{size-is-length}
@@ -26,7 +26,7 @@ use Rattle.handout.proofs.OpenListings.{plug-tokens, plug-rules, listed
 use Rattle.handout.proofs.TreeListerSteps.{wrote-as}
 
 -- a tree's listing in three parts
-module _ {g : Grammar} {r : ℕ} {t : Tree g (g .start)} (z : TreeOf plain g r t) where
+module _ {g : Grammar} {r : ℕ} {t : Tree g (g .start)} (z : TreeOf measure g r t) where
   tokens-are : sentence t ≡ tokensOn before (z .above) ++ (sentences (z .under) ++ tokensOn after (z .above))
   tokens-are = ap sentence (z .whole) ∙ plug-tokens (z .above) (node r (z .rule) (z .under))
 
@@ -43,10 +43,10 @@ counted writes = λ g known s t tree.
     (omega arith, omega arith)
 
 module _ {words places table : List ℕ} {n start r : ℕ} (ready : TreeReady words places table n start r) where
-  the-tree : (t : Tree (ready .g) (ready .g .start)) × TreeOf plain (ready .g) r t
+  the-tree : (t : Tree (ready .g) (ready .g .start)) × TreeOf measure (ready .g) r t
   the-tree =
       let ok = ready .accepted in
-      tree-of-exists plain (ready .g) (in-bounds words (ready .known .view .is)) (ok .trees) (ok .reached) r (ready .number)
+      tree-of-exists measure (ready .g) (in-bounds words (ready .known .view .is)) (ok .trees) (ok .reached) r (ready .number)
 
   abbrev total : ℕ
   total = getD table (5 * n + r) 0
@@ -57,11 +57,11 @@ module _ {words places table : List ℕ} {n start r : ℕ} (ready : TreeReady wo
 
   tree-total : length (sentence (the-tree .0)) + length (derivation (the-tree .0)) ≡ total
   tree-total =
-      let is = total-unique (tree-of-total plain (the-tree .1)) (ready .known .tabled .totals r (ready .number)) in
+      let is = total-unique (tree-of-total measure (the-tree .1)) (ready .known .tabled .totals r (ready .number)) in
       omega (arith, size-is-length (the-tree .0), is, total-front (ready .g) table r (ready .number), total-stands)
 
   -- it is at most 4,096
-  total-few : total ≤ 4096
+  total-few : total ≤ limit
   total-few =
       let fits = ready .accepted .fit r (ready .number) in
       let is = total-unique (fits .is) (ready .known .tabled .totals r (ready .number)) in

@@ -6,6 +6,7 @@ use mathlib.Core.List.{List}
 use lib.ListN.{length, getD}
 use Rattle.grammar.specs.Words.{Grammar, R}
 use Rattle.grammar.specs.Refusals.{Accepted, Lowest}
+use Rattle.grammar.specs.Terms.{limit}
 use Rattle.handout.specs.Next.{Unused}
 use Rattle.handout.specs.declared.tree_lister.Request.{Request}
 use Rattle.handout.specs.Listing.{Known}
@@ -13,14 +14,14 @@ use Rattle.handout.specs.Listing.{Known}
 -- rows 4 to 8 are passed: the words are a grammar's, its rules stand at these indexes and are so many, and the table is its own
 pub record Tabled (words places table : List ℕ) (rules : ℕ) : Type 0 where
   pub g : Grammar
-  pub accepted : Accepted g
+  pub accepted : Accepted limit g
   pub known : Known words places table (g .N) g
   pub all-rules : rules ≡ R g
 
 -- and so is 9, and a rule is unused
 pub record Asked (words places table marks : List ℕ) (r : ℕ) : Type 0 where
   pub g : Grammar
-  pub accepted : Accepted g
+  pub accepted : Accepted limit g
   pub known : Known words places table (g .N) g
   pub marked : R g ≤ length marks
   pub target : Lowest (Unused g marks) r

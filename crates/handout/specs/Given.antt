@@ -13,6 +13,7 @@ use Rattle.grammar.specs.Tree.{Tree, sentence, derivation}
 use Rattle.grammar.specs.Refusals.{Lowest, NoTree, AllTrees, Unreached, AllReached, Oversize, Accepted}
 use Rattle.tables.specs.Table.{HasTable}
 use Rattle.grammar.specs.Words.{Are}
+use Rattle.grammar.specs.Terms.{limit}
 use Rattle.tables.specs.Given.{Own}
 use Rattle.handout.specs.Next.{refused, AllUsed, Marked, Wanted, Lent}
 use Rattle.handout.specs.declared.NextAnswer.{NextAnswer}
@@ -31,8 +32,8 @@ module _ (words table : List ℕ) (before : Lent) where
   Given (broken-layout p) = layout words ≡ faults p
   Given (no-tree A) = Are words (λ g. Lowest (NoTree g) A)
   Given (unreached A) = Are words (λ g. AllTrees g × Lowest (Unreached g) A)
-  Given (oversize r) = Are words (λ g. AllTrees g × AllReached g × Lowest (Oversize g) r)
-  Given not-its-table = Are words (λ g. Accepted g × ¬ HasTable g table)
+  Given (oversize r) = Are words (λ g. AllTrees g × AllReached g × Lowest (Oversize limit g) r)
+  Given not-its-table = Are words (λ g. Accepted limit g × ¬ HasTable g table)
   Given (few-marks n) = Are words (λ g. Own table g × (n ≡ R g) × (length (before .marks) < n))
   Given (too-short n) = Target (λ k s d. (n ≡ length s) × (length (before .tokens) < n))
   Given (derivation-short n) =

@@ -12,7 +12,7 @@ use Rattle.grammar.specs.Words.{Grammar, R}
 use Rattle.layout.specs.Rules.{rightAt}
 use Rattle.layout.specs.Walk.{countAt}
 use Rattle.grammar.specs.Tree.{Tree, Forest, sentence, sentences, derivation, derivations}
-use Rattle.grammar.specs.Measure.{plain}
+use Rattle.grammar.specs.Terms.{measure, limit}
 use Rattle.grammar.specs.Least.{ChosenTree, ChosenForest}
 use Rattle.grammar.specs.Certificates.{either}
 use Rattle.tables.specs.Table.{HasTable, entry}
@@ -50,28 +50,28 @@ pub record Stands (words places : List ℕ) (k : ℕ) : Type 0 where
 pub record SymbolReady (words places table : List ℕ) (n s : ℕ) (past : Lengths) : Type 0 where
   pub g : Grammar
   pub known : Known words places table n g
-  pub few : past .tokens + past .rules + sizeBy n table s ≤ 4096
+  pub few : past .tokens + past .rules + sizeBy n table s ≤ limit
 
 pub record RuleReady (words places table : List ℕ) (n k : ℕ) (past : Lengths) : Type 0 where
   pub g : Grammar
   pub known : Known words places table n g
   pub number : k < R g
-  pub few : past .tokens + past .rules + (1 + sizesBy n table (rightOf words places k)) ≤ 4096
+  pub few : past .tokens + past .rules + (1 + sizesBy n table (rightOf words places k)) ≤ limit
 
 pub record SymbolsReady (words places table : List ℕ) (n : ℕ) (w : List ℕ) (past : Lengths) : Type 0 where
   pub g : Grammar
   pub known : Known words places table n g
-  pub few : past .tokens + past .rules + sizesBy n table w ≤ 4096
+  pub few : past .tokens + past .rules + sizesBy n table w ≤ limit
 
 -- the tokens us and the rule numbers vs list the symbol s, opened by chosen rules
 pub data SymbolListed (g : Grammar) : ℕ → List ℕ → List ℕ → Type 0 where
   of-terminal : {s : ℕ} → g .N ≤ s → SymbolListed g s (s ∷ []) []
-  of-nonterminal : {s : ℕ} (t : Tree g s) → ChosenTree plain g t → SymbolListed g s (sentence t) (derivation t)
+  of-nonterminal : {s : ℕ} (t : Tree g s) → ChosenTree measure g t → SymbolListed g s (sentence t) (derivation t)
 
 -- they list the symbols of w in order
 pub record SymbolsListed (g : Grammar) (w us vs : List ℕ) : Type 0 where
   pub forest : Forest g w
-  pub chosen : ChosenForest plain g forest
+  pub chosen : ChosenForest measure g forest
   pub tokens : us ≡ sentences forest
   pub rules : vs ≡ derivations forest
 

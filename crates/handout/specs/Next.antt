@@ -13,7 +13,7 @@ use Rattle.answers.specs.Refusals.{too-short, derivation-short}
 use Rattle.answers.specs.Buffers.{over}
 use Rattle.grammar.specs.Words.{Grammar, R, layout, reads, faults}
 use Rattle.grammar.specs.Tree.{Tree, sentence, derivation, _∈_}
-use Rattle.grammar.specs.Measure.{plain}
+use Rattle.grammar.specs.Terms.{measure, limit}
 use Rattle.grammar.specs.Least.{TreeOf}
 use Rattle.grammar.specs.Refusals.{Lowest, NoTree, AllTrees, Unreached, AllReached, Oversize, Accepted}
 use Rattle.tables.specs.Table.{HasTable}
@@ -49,11 +49,11 @@ pub record Marked (ks before after : List ℕ) : Type 0 where
 -- rows 4 to 9 are passed and a rule is unused: r is the lowest, and t its tree
 pub record Wanted (words table marks : List ℕ) (g : Grammar) (r : ℕ) (t : Tree g (g .start)) : Type 0 where
   pub grammar : layout words ≡ reads g
-  pub accepted : Accepted g
+  pub accepted : Accepted limit g
   pub tabled : HasTable g table
   pub marked : R g ≤ length marks
   pub target : Lowest (Unused g marks) r
-  pub tree : TreeOf plain g r t
+  pub tree : TreeOf measure g r t
 
 pub data NextPromise (words table : List ℕ) (before : Lent) : NextAnswer → Lent → Type 0 where
   -- "words break the grammar layout"
@@ -66,16 +66,16 @@ pub data NextPromise (words table : List ℕ) (before : Lent) : NextAnswer → L
   row-6 : {g : Grammar} {A : ℕ} → layout words ≡ reads g → AllTrees g → Lowest (Unreached g) A →
       NextPromise words table before (refused (unreached A)) before
   -- "some Total is above 4,096"
-  row-7 : {g : Grammar} {r : ℕ} → layout words ≡ reads g → AllTrees g → AllReached g → Lowest (Oversize g) r →
+  row-7 : {g : Grammar} {r : ℕ} → layout words ≡ reads g → AllTrees g → AllReached g → Lowest (Oversize limit g) r →
       NextPromise words table before (refused (oversize r)) before
   -- "the first 5N + R table words are missing or are not this grammar's table"
-  row-8 : {g : Grammar} → layout words ≡ reads g → Accepted g → ¬ HasTable g table →
+  row-8 : {g : Grammar} → layout words ≡ reads g → Accepted limit g → ¬ HasTable g table →
       NextPromise words table before (refused not-its-table) before
   -- "fewer marks than rules"
-  row-9 : {g : Grammar} → layout words ≡ reads g → Accepted g → HasTable g table → length (before .marks) < R g →
+  row-9 : {g : Grammar} → layout words ≡ reads g → Accepted limit g → HasTable g table → length (before .marks) < R g →
       NextPromise words table before (refused (few-marks (R g))) before
   -- "With no rule unused it answers Finished and writes nothing."
-  finished : {g : Grammar} → layout words ≡ reads g → Accepted g → HasTable g table → R g ≤ length (before .marks) →
+  finished : {g : Grammar} → layout words ≡ reads g → Accepted limit g → HasTable g table → R g ≤ length (before .marks) →
       AllUsed g (before .marks) →
       NextPromise words table before Finished before
   -- "sentence buffer too short"

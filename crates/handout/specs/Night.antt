@@ -9,7 +9,8 @@ use lib.ListN.{length, take}
 use Rattle.grammar.specs.Words.{Grammar, R, layout, reads}
 use Rattle.grammar.specs.Derivation.{Derives}
 use Rattle.grammar.specs.Tree.{Tree, Uses, _∈_}
-use Rattle.grammar.specs.Measure.{plain, treeCost}
+use Rattle.grammar.specs.Measure.{treeCost}
+use Rattle.grammar.specs.Terms.{measure, limit}
 use Rattle.handout.specs.Next.{Lent, AllUnused, NextPromise}
 use Rattle.handout.specs.declared.NextAnswer.{NextAnswer}
 use Rattle.handout.specs.declared.NextAnswer.the-variants.{Next, Finished}
@@ -35,8 +36,8 @@ pub record Over (words table : List ℕ) (handed : List Handout) : Type 0 where
 -- room for the marks of all rules and for any sentence and derivation within the limit
 pub record Enough (g : Grammar) (lent : Lent) : Type 0 where
   pub marks : R g ≤ length (lent .marks)
-  pub tokens : 4096 ≤ length (lent .tokens)
-  pub rules : 4096 ≤ length (lent .rules)
+  pub tokens : limit ≤ length (lent .tokens)
+  pub rules : limit ≤ length (lent .rules)
 
 -- the answer is no refusal
 abbrev pub GoesOn : NextAnswer → Type 0
@@ -66,9 +67,9 @@ pub record Proper (g : Grammar) (hs : List Handout) (r : ℕ) (t ks : List ℕ) 
   pub new : ¬ UsedIn hs r
   pub lowest : (k : ℕ) → k < r → UsedIn hs k
   -- no tree of the start that uses it is smaller
-  pub least : (u : Tree g (g .start)) → Uses r u → length t + length ks ≤ treeCost plain u
+  pub least : (u : Tree g (g .start)) → Uses r u → length t + length ks ≤ treeCost measure u
   -- "In the suite no sentence and its derivation together exceed 4,096 numbers."
-  pub limit : length t + length ks ≤ 4096
+  pub limit : length t + length ks ≤ limit
 
 pub data AllProper (g : Grammar) : List Handout → Type 0 where
   none-yet : AllProper g []

@@ -9,7 +9,7 @@ use lib.ListN.{length, getD, take, drop}
 use Rattle.grammar.specs.Words.{Grammar, R}
 use Rattle.grammar.specs.Tree.{Tree, Gap, here, past-leaf, past-child, Open, root, down}
 use Rattle.grammar.specs.Tree.{sentence, sentences, derivation, derivations}
-use Rattle.grammar.specs.Measure.{plain}
+use Rattle.grammar.specs.Terms.{measure, limit}
 use Rattle.grammar.specs.Least.{ChosenOpen, TreeOf}
 use Rattle.grammar.specs.Refusals.{Accepted}
 use Rattle.tables.specs.Table.{entry}
@@ -34,12 +34,12 @@ backOf words places table A = drop (suc (entry table A 4)) (rightOf words places
 pub record FrontReady (words places table : List ℕ) (n A : ℕ) (past : Lengths) : Type 0 where
   pub g : Grammar
   pub beside : Beside words places table n A g
-  pub few : past .tokens + past .rules + (1 + sizesBy n table (frontOf words places table A)) ≤ 4096
+  pub few : past .tokens + past .rules + (1 + sizesBy n table (frontOf words places table A)) ≤ limit
 
 pub record BackReady (words places table : List ℕ) (n A : ℕ) (past : Lengths) : Type 0 where
   pub g : Grammar
   pub beside : Beside words places table n A g
-  pub few : past .tokens + past .rules + sizesBy n table (backOf words places table A) ≤ 4096
+  pub few : past .tokens + past .rules + sizesBy n table (backOf words places table A) ≤ limit
 
 -- the number and the symbols before the place are written
 abbrev pub FrontWritten : List ℕ → List ℕ → List ℕ → ℕ → ℕ → List ℕ → List ℕ → List ℕ → List ℕ → Lengths → Lengths → Type 0
@@ -103,8 +103,8 @@ pub record SideReady (side : Side) (words places table : List ℕ) (n start A : 
   pub known : Known words places table n g
   pub starts-at : start ≡ g .start
   pub above : Open g A
-  pub follows : ChosenOpen plain g above
-  pub few : past .tokens + past .rules + (length (tokensOn side above) + length (rulesOn side above)) ≤ 4096
+  pub follows : ChosenOpen measure g above
+  pub few : past .tokens + past .rules + (length (tokensOn side above) + length (rulesOn side above)) ≤ limit
 
 -- they lead so far, and the path has room for as many as there are nonterminals
 pub record ClimbReady (words places table : List ℕ) (start A : ℕ) (path : List ℕ) : Type 0 where
@@ -113,7 +113,7 @@ pub record ClimbReady (words places table : List ℕ) (start A : ℕ) (path : Li
   pub known : Known words places table n g
   pub starts-at : start ≡ g .start
   pub above : Open g A
-  pub follows : ChosenOpen plain g above
+  pub follows : ChosenOpen measure g above
   pub long : n ≤ length path
 
 -- the path is noted, and what lies on that side of its lowest nonterminal can be listed
@@ -128,7 +128,7 @@ pub record WayReady (side : Side) (words places table : List ℕ) (n : ℕ) (pat
 abbrev pub SideWritten : Side → List ℕ → List ℕ → List ℕ → ℕ → ℕ → ℕ → List ℕ → List ℕ → List ℕ → List ℕ → Lengths → Lengths →
     Type 0
 SideWritten side words places table n start A tokens tokens′ rules rules′ past so =
-    (g : Grammar) → Known words places table n g → start ≡ g .start → (above : Open g A) → ChosenOpen plain g above →
+    (g : Grammar) → Known words places table n g → start ≡ g .start → (above : Open g A) → ChosenOpen measure g above →
     Wrote (tokensOn side above) (rulesOn side above) tokens tokens′ rules rules′ past so
 
 -- whichever nonterminal the path leads up from
@@ -143,7 +143,7 @@ pub record TreeReady (words places table : List ℕ) (n start r : ℕ) : Type 0 
   pub g : Grammar
   pub known : Known words places table n g
   pub starts-at : start ≡ g .start
-  pub accepted : Accepted g
+  pub accepted : Accepted limit g
   pub number : r < R g
 
 abbrev pub none-so-far : Lengths
@@ -151,16 +151,16 @@ none-so-far = record { tokens = 0; rules = 0 }
 
 abbrev pub TreeWritten : List ℕ → List ℕ → List ℕ → ℕ → ℕ → ℕ → List ℕ → List ℕ → List ℕ → List ℕ → Lengths → Type 0
 TreeWritten words places table n start r tokens tokens′ rules rules′ so =
-    (g : Grammar) → Known words places table n g → start ≡ g .start → (t : Tree g (g .start)) → TreeOf plain g r t →
+    (g : Grammar) → Known words places table n g → start ≡ g .start → (t : Tree g (g .start)) → TreeOf measure g r t →
     Wrote (sentence t) (derivation t) tokens tokens′ rules rules′ none-so-far so
 
 abbrev pub TreeCounted : List ℕ → List ℕ → List ℕ → ℕ → ℕ → ℕ → Lengths → Type 0
 TreeCounted words places table n start r so =
-    (g : Grammar) → Known words places table n g → start ≡ g .start → (t : Tree g (g .start)) → TreeOf plain g r t →
+    (g : Grammar) → Known words places table n g → start ≡ g .start → (t : Tree g (g .start)) → TreeOf measure g r t →
     (so .tokens ≡ length (sentence t)) × (so .rules ≡ length (derivation t))
 
 -- there is room for it
 abbrev pub TreeFits : List ℕ → List ℕ → List ℕ → ℕ → ℕ → ℕ → List ℕ → List ℕ → Type 0
 TreeFits words places table n start r tokens rules =
-    (g : Grammar) → Known words places table n g → start ≡ g .start → (t : Tree g (g .start)) → TreeOf plain g r t →
+    (g : Grammar) → Known words places table n g → start ≡ g .start → (t : Tree g (g .start)) → TreeOf measure g r t →
     (length (sentence t) ≤ length tokens) × (length (derivation t) ≤ length rules)

@@ -18,7 +18,7 @@ use Rattle.grammar.specs.Replaying.{stopped, replayed, replay}
 use Rattle.grammar.proofs.Replay.{replay-exact, replay-stops}
 use Rattle.layout.specs.View.{View}
 use Rattle.layout.proofs.RulesInView.{viewed-rule}
-use Rattle.replay.specs.Replay.{Replay, row-11, row-3, row-done}
+use Rattle.replay.specs.Replay.{Replay, row-11, row-3, row-done, mostNumbers}
 use Rattle.replay.specs.Forms.{side, waiting, formOf, Passed}
 use Rattle.replay.specs.ReplaySteps.{rest, allFront, Ground, Kept, Onward, Bounded, Turned, Whole, Ended, Ran}
 use Rattle.replay.specs.declared.forms.Open.{Open}
@@ -115,7 +115,7 @@ module _ {g : Grammar} {ws list stack : List ℕ} {o : Open} {before sentence : 
     held-stop {p} e = held .replays ∙ ap (allFront (held .passed)) (by e) ∙ all-front-stopped (held .passed) p
 
 -- the bounds that a grammar gives
-pub ground : {ws places list : List ℕ} {n rules : ℕ} {g : Grammar} → View ws places n rules g → length list ≤ 4096 →
+pub ground : {ws places list : List ℕ} {n rules : ℕ} {g : Grammar} → View ws places n rules g → length list ≤ mostNumbers →
     Ground ws places list rules
 ground {ws} {places} {list} {n} {rules} {g} view few = record {
   few-words = omega (arith, words-few ws g (view .is));
@@ -136,7 +136,8 @@ unfolding over
 stored-over t before h = let e : 0 + length t ≡ length t = omega arith in rw e at (sets-eq t before 0 (omega arith))
 
 -- the rows of a list that is not too long
-module _ {ws places list : List ℕ} {n rules : ℕ} {g : Grammar} (view : View ws places n rules g) (few : length list ≤ 4096) where
+module _ {ws places list : List ℕ} {n rules : ℕ} {g : Grammar} (view : View ws places n rules g)
+    (few : length list ≤ mostNumbers) where
   pub answers-11 : {aside before after : List ℕ} {r : Outcome} {p : ℕ} {a : ReplayAnswer} → Ran g list aside r after →
       r ≡ Stopped p → a ≡ Refused 11 p → Replay ws list before a before
   answers-11 {aside} {before} {after} {r} {p} z e q =

@@ -16,7 +16,7 @@ use Rattle.answers.proofs.Gates.{Gate, stop, go, Settles, gate-settles}
 use Rattle.grammar.proofs.FirstRows.{OfWords, fault, grammar, words-settle}
 use Rattle.grammar.proofs.FirstRowsMet.{words-met}
 use Rattle.replay.specs.Answers.{Case, answer, done, broken-layout, long-list, no-derivation, too-short}
-use Rattle.replay.specs.Replay.{Replay, row-4, row-12, row-11, row-3, row-done}
+use Rattle.replay.specs.Replay.{Replay, row-4, row-12, row-11, row-3, row-done, mostNumbers}
 use Rattle.replay.specs.declared.ReplayAnswer.{ReplayAnswer}
 
 module _ (words list before : List ℕ) where
@@ -46,7 +46,7 @@ module _ (words list before : List ℕ) where
   FromEleven g = Gate (StopsAt g list) ((t : List ℕ) × Derives g list t) (λ p. keeping (no-derivation p)) (FromThree g)
 
   abbrev Rows : Grammar → Out → Type 0
-  Rows g = Gate {X = Unit {0}} (λ x. 4096 < length list) (length list ≤ 4096) (λ x. keeping long-list) (FromEleven g)
+  Rows g = Gate {X = Unit {0}} (λ x. mostNumbers < length list) (length list ≤ mostNumbers) (λ x. keeping long-list) (FromEleven g)
 
   short-unique : (g : Grammar) (n m : ℕ) → Short g n → Short g m → n ≡ m
   short-unique g _ _ (short a h) (short b k) = ap length (derives-unique g a b)
@@ -84,17 +84,17 @@ module _ (words list before : List ℕ) where
   Row g o = layout words ≡ reads g → Replay words list before (o .0) (o .1)
 
   row-met : (g : Grammar) → (o : Out) × Row g o
-  row-met g = list? (decLt 4096 (length list))
+  row-met g = list? (decLt mostNumbers (length list))
     where
-      room? : length list ≤ 4096 → (t : List ℕ) → Derives g list t → Dec (length before < length t) → (o : Out) × Row g o
+      room? : length list ≤ mostNumbers → (t : List ℕ) → Derives g list t → Dec (length before < length t) → (o : Out) × Row g o
       room? l t d (yes h) = (keeping (too-short (length t)), λ e. row-3 e l d h)
       room? l t d (no h) = ((answer (done (length t)), over t before), λ e. row-done e l d (omega arith))
 
-      derives? : length list ≤ 4096 → (z : Replayed) → replay g list ≡ z → (o : Out) × Row g o
+      derives? : length list ≤ mostNumbers → (z : Replayed) → replay g list ≡ z → (o : Out) × Row g o
       derives? l (derived t) h = room? l t (replay-exact g list t .0 h) (decLt (length before) (length t))
       derives? l (stopped p) h = (keeping (no-derivation p), λ e. row-11 e l (replay-stops g list p .0 h))
 
-      list? : Dec (4096 < length list) → (o : Out) × Row g o
+      list? : Dec (mostNumbers < length list) → (o : Out) × Row g o
       list? (yes h) = (keeping long-list, λ e. row-12 e h)
       list? (no h) = derives? (omega arith) (replay g list) refl
 

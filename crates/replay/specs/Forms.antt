@@ -8,6 +8,7 @@ use lib.ListN.{length, getD, set}
 use lib.Seq.{sets}
 use Rattle.layout.specs.Walk.{countAt}
 use Rattle.replay.specs.declared.forms.Open.{Open}
+use Rattle.replay.specs.Replay.{mostNumbers}
 
 -- so many words from an index on
 unfoldable pub side : List ℕ → ℕ → ℕ → List ℕ
@@ -75,7 +76,7 @@ pub record Passed (ws : List ℕ) (n : ℕ) (o : Open) (sentence : List ℕ) (o�
 pub record Openable (ws : List ℕ) (at : ℕ) (stack : List ℕ) (o : Open) : Type 0 where
   pub some : 0 < o .left
   pub few-words : length ws ≤ 65535
-  pub few-rules : o .next ≤ 4096
+  pub few-rules : o .next ≤ mostNumbers
   pub room : 2 * o .depth + 1 < length stack
   pub inside : o .at + o .left ≤ length ws
   pub all-inside : (i : ℕ) → i < o .depth → atOf stack i + leftOf stack i ≤ length ws

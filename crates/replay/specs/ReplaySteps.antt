@@ -10,6 +10,7 @@ use Rattle.grammar.specs.Words.{Grammar}
 use Rattle.layout.specs.Walk.{countAt}
 use Rattle.grammar.specs.Replaying.{Replayed, derived, stopped, replayed, replay}
 use Rattle.replay.specs.Forms.{atOf, leftOf, formOf}
+use Rattle.replay.specs.Replay.{mostNumbers}
 use Rattle.replay.specs.declared.forms.Open.{Open}
 use Rattle.replay.specs.declared.derivation.Move.{Move}
 use Rattle.replay.specs.declared.derivation.Move.the-variants.{On, End, Stop}
@@ -34,7 +35,7 @@ allFront (s ∷ t) z = front s (allFront t z)
 pub record Ground (ws places list : List ℕ) (rules : ℕ) : Type 0 where
   pub few-words : length ws ≤ 65535
   pub few-rules : rules ≤ 256
-  pub few-numbers : length list ≤ 4096
+  pub few-numbers : length list ≤ mostNumbers
   pub whole : (k : ℕ) → k < rules → getD places k 0 + 2 + countAt ws (getD places k 0) ≤ length ws
 
 -- the bounds of what is open

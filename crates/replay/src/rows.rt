@@ -6,7 +6,7 @@ ghost use lib.ListN.{length, take};
 ghost use Rattle.answers.specs.Buffers.{over};
 ghost use Rattle.grammar.specs.Words.{Grammar};
 ghost use Rattle.layout.specs.View.{View};
-ghost use Rattle.replay.specs.Replay.{Replay};
+ghost use Rattle.replay.specs.Replay.{Replay, mostNumbers};
 use crate::ReplayAnswer;
 use crate::derivation::Outcome;
 use crate::derivation::run;
@@ -112,7 +112,7 @@ fn of_many(
     list: &[u16],
     sentence: &mut [u16],
 ) -> ReplayAnswer
-    requires { ⌜ ((g : Grammar) × View (now words) (now places) n rules g) × (length (now list) ≤ 4096) ⌝ }
+    requires { ⌜ ((g : Grammar) × View (now words) (now places) n rules g) × (length (now list) ≤ mostNumbers) ⌝ }
     ensures { λ r. ⌜ Replay (now (words .entry)) (now (list .entry)) (now (sentence .entry)) r (now (sentence .exit)) ⌝ }
 {
     let mut stack = [0u16; 2 * MOST_NUMBERS];
@@ -141,7 +141,7 @@ fn of_list(
     aside: &mut [u16],
     sentence: &mut [u16],
 ) -> ReplayAnswer
-    requires { ⌜ ((g : Grammar) × View (now words) (now places) n rules g) × ((length (now list) ≤ 4096) ×
+    requires { ⌜ ((g : Grammar) × View (now words) (now places) n rules g) × ((length (now list) ≤ mostNumbers) ×
         (2 * length (now list) ≤ length (now stack))) ⌝ }
     ensures { λ r. ⌜ Replay (now (words .entry)) (now (list .entry)) (now (sentence .entry)) r (now (sentence .exit)) ⌝ }
 {

@@ -17,8 +17,10 @@ use Rattle.grammar.specs.Refusals.{Accepted}
 use Rattle.grammar.specs.Tree.{Tree, plug, StandsIn}
 use Rattle.grammar.specs.FigureTests.{each}
 use Rattle.grammar.specs.Replaying.{Replayed, derived, stopped, replay}
+use Rattle.grammar.specs.Terms.{limit}
 use Rattle.grammar.proofs.FigureTest.{each-at}
 use Rattle.grammar.proofs.Main.{layout-exact, dead, replay-exact, replay-stops}
+use Rattle.replay.specs.Replay.{mostNumbers}
 use Rattle.tables.specs.Table.{IsTable, totalEntry}
 use Rattle.tables.specs.Promise as tables
 use Rattle.tables.specs.TableCertificates.{passes?}
@@ -46,7 +48,7 @@ same (x ∷ xs) (y ∷ ys) t =
 
 -- THE TESTS, each of what was computed and of the row's result
 abbrev pub totals-fit? : Grammar → List ℕ → Bool
-totals-fit? g table = each (λ r. leb (totalEntry g table r) 4096) (R g)
+totals-fit? g table = each (λ r. leb (totalEntry g table r) limit) (R g)
 
 abbrev pub table? : Judged Grammar → Result → Bool
 table? (reads g) (writes table) = passes? g table && totals-fit? g table
@@ -61,7 +63,7 @@ replayed? (stopped p) (writes sentence) = false
 replayed? (stopped p) (refuses number place) = eqb number 11 && eqb place p
 
 abbrev pub replay? : Judged Grammar → List ℕ → Result → Bool
-replay? (reads g) list r = leb (length list) 4096 && replayed? (replay g list) r
+replay? (reads g) list r = leb (length list) mostNumbers && replayed? (replay g list) r
 replay? (faults p) list r = false
 
 abbrev pub unpacked? : List ℕ → Result → Bool
@@ -76,7 +78,7 @@ row? (refusal-of words number place) = table? (layout words) (refuses number pla
 row? (night-of words table hs) = false
 
 -- a grammar whose table has no total above 4,096 is accepted
-pub table-accepts : {g : Grammar} {table : List ℕ} → IsTable g table → So (totals-fit? g table) → Accepted g
+pub table-accepts : {g : Grammar} {table : List ℕ} → IsTable g table → So (totals-fit? g table) → Accepted limit g
 table-accepts {g} {table} is t =
     let (trees, reached) = dead g .1 stands in
     record {
@@ -85,7 +87,7 @@ table-accepts {g} {table} is t =
       fit = λ r l. record {
         total = totalEntry g table r;
         is = is .totals r l;
-        within = leb-true _ 4096 (each-at (λ r. leb (totalEntry g table r) 4096) (R g) t r l);
+        within = leb-true _ limit (each-at (λ r. leb (totalEntry g table r) limit) (R g) t r l);
       };
     }
   where
@@ -120,10 +122,10 @@ replay-sound : (list words : List ℕ) (r : Result) (j : Judged Grammar) → lay
     Holds (replay-of list words r)
 replay-sound list words r (faults p) e t = absurd (false≢true t)
 replay-sound list words r (reads g) e t =
-    let (short, ends) = and-eq-true-iff (leb (length list) 4096) (replayed? (replay g list) r) .0 t in
-    go r (replay g list) refl (leb-true _ 4096 short) ends
+    let (short, ends) = and-eq-true-iff (leb (length list) mostNumbers) (replayed? (replay g list) r) .0 t in
+    go r (replay g list) refl (leb-true _ mostNumbers short) ends
   where
-    go : (r : Result) (z : Replayed) → replay g list ≡ z → length list ≤ 4096 → So (replayed? z r) →
+    go : (r : Result) (z : Replayed) → replay g list ≡ z → length list ≤ mostNumbers → So (replayed? z r) →
         Holds (replay-of list words r)
     go (writes sentence) (derived t) h l ends =
         let is : sentence ≡ t = same sentence t ends in

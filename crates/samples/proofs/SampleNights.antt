@@ -9,7 +9,7 @@ use lib.ListN.{length}
 use lib.Seq.{take-at}
 use Rattle.grammar.specs.Words.{Grammar, R, RuleAt, layout, lefts, reads}
 use Rattle.grammar.specs.Tree.{Tree, Forest, node, nil, leaf, child, root, plug, sentence, derivation, _∈_}
-use Rattle.grammar.specs.Measure.{plain}
+use Rattle.grammar.specs.Terms.{measure, limit}
 use Rattle.grammar.specs.Least.{TreeOf}
 use Rattle.grammar.specs.Refusals.{Lowest, Accepted}
 use Rattle.grammar.proofs.Main.{tree-of-same}
@@ -25,8 +25,8 @@ use Rattle.samples.specs.Rows.{empty-words, empty-table, loop-words, loo
 use Rattle.samples.proofs.RowsTested.{table-accepts}
 
 -- A night of one sentence: the tree of rule 0 uses every rule.
-module _ (words table : List ℕ) {g : Grammar} (e : layout words ≡ reads g) (a : Accepted g) (is : IsTable g table)
-    {t : Tree g (g .start)} (tree : TreeOf plain g 0 t) (some-rule : 0 < R g)
+module _ (words table : List ℕ) {g : Grammar} (e : layout words ≡ reads g) (a : Accepted limit g) (is : IsTable g table)
+    {t : Tree g (g .start)} (tree : TreeOf measure g 0 t) (some-rule : 0 < R g)
     (uses-all : (k : ℕ) → k < R g → k ∈ derivation t) where
   tabled : (rest : List ℕ) → HasTable g (table ++ rest)
   tabled rest = rw (take-at table rest _ (is .long)) is
@@ -47,7 +47,7 @@ module _ (words table : List ℕ) {g : Grammar} (e : layout words ≡ reads g) (
       let (k, read, there) = next-writes p 0 n m (next-next p 0 n m .1 given) in
       let same : k ≡ g = cc in
       let h = subst (λ (j : Grammar). Handed words (table ++ rest) before after 0 n m j) same there in
-      let same-tree = tree-of-same plain (h .wanted .tree) tree .1 in
+      let same-tree = tree-of-same measure (h .wanted .tree) tree .1 in
       (after .marks, subst (λ (ks : List ℕ). Marked ks marks (after .marks)) same-tree (h .marks))
 
   hands : (rest marks : List ℕ) → ClearMarks g marks →
@@ -80,7 +80,7 @@ empty-reads = refl
 empty-rule-0 : RuleAt empty-rule 0 0 []
 empty-rule-0 = record { stands = refl; left = omega arith }
 
-empty-tree : TreeOf plain empty-rule 0 (node 0 empty-rule-0 nil)
+empty-tree : TreeOf measure empty-rule 0 (node 0 empty-rule-0 nil)
 unfolding plug
 empty-tree = record {
   A = 0;
@@ -117,7 +117,7 @@ loop-rule-1 = record { stands = refl; left = omega arith }
 abbrev under-0 : Forest loop (0 ∷ [])
 under-0 = child (node 1 loop-rule-1 (leaf {s = 1} (omega arith) nil)) nil
 
-loop-tree : TreeOf plain loop 0 (node 0 loop-rule-0 under-0)
+loop-tree : TreeOf measure loop 0 (node 0 loop-rule-0 under-0)
 unfolding plug
 loop-tree = record {
   A = 0;

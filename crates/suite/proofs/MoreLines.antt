@@ -11,6 +11,7 @@ use lib.Dec.{leb}
 use lib.Seq.{take-at, length-take-le}
 use borrow.Author.Tests.{leb-true, leb-false}
 use Rattle.grammar.specs.Words.{Grammar}
+use Rattle.grammar.specs.Terms.{limit}
 use Rattle.grammar.proofs.LayoutExact.{in-bounds}
 use Rattle.handout.specs.Next.{Lent, NextPromise}
 use Rattle.handout.specs.Night.{Handout, Night, later, Enough, GoesOn}
@@ -31,7 +32,7 @@ true-not-false e f = let z : _≡_ {A = ℕ} 0 1 = cc in omega arith
 
 -- marks for all rules, room for every sentence and every derivation
 abbrev pub Room : List ℕ → List ℕ → List ℕ → Type 0
-Room marks tokens rules = (256 ≤ length marks) × (4096 ≤ length tokens) × (4096 ≤ length rules)
+Room marks tokens rules = (256 ≤ length marks) × (limit ≤ length tokens) × (limit ≤ length rules)
 
 -- while it is not over there are no more sentences than rules
 pub count-few : {file words table marks out : List ℕ} {count : ℕ} {over : Bool} →

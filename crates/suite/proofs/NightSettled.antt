@@ -9,7 +9,7 @@ use mathlib.Core.List.{List, _∷_}
 use lib.ListN.{length, take}
 use Rattle.grammar.specs.Words.{Grammar, layout, reads}
 use Rattle.grammar.specs.Tree.{Tree, sentence, derivation}
-use Rattle.grammar.specs.Measure.{plain}
+use Rattle.grammar.specs.Terms.{measure}
 use Rattle.grammar.specs.Least.{TreeOf}
 use Rattle.grammar.proofs.LayoutExact.{reads-unique}
 use Rattle.grammar.proofs.Main.{tree-of-same}
@@ -22,14 +22,14 @@ use Rattle.suite.proofs.LinesFit.{first-proper}
 -- t and ks are the listing of the tree of r
 record Listed (g : Grammar) (r : ℕ) (t ks : List ℕ) : Type 0 where
   tree : Tree g (g .start)
-  is : TreeOf plain g r tree
+  is : TreeOf measure g r tree
   says : t ≡ sentence tree
   lists : ks ≡ derivation tree
 
 module _ {g : Grammar} {r : ℕ} {t t′ ks ks′ : List ℕ} (a : Listed g r t ks) (b : Listed g r t′ ks′) where
   listed-same : handout r t ks ≡ handout r t′ ks′
   listed-same =
-      let same = tree-of-same plain (a .is) (b .is) in
+      let same = tree-of-same measure (a .is) (b .is) in
       let s : t ≡ t′ = a .says ∙ same .0 ∙ sym (b .says) in
       let d : ks ≡ ks′ = a .lists ∙ same .1 ∙ sym (b .lists) in
       rw (s, d) refl

@@ -7,6 +7,7 @@ use mathlib.Core.Path.{_≡_, refl, sym, _∙_}
 use mathlib.Core.List.{List}
 use lib.ListN.{length, getD, replicate, length-replicate}
 use Rattle.grammar.specs.Words.{Grammar, layout, reads}
+use Rattle.grammar.specs.Terms.{limit}
 use Rattle.grammar.proofs.LayoutExact.{in-bounds, reads-unique}
 use Rattle.packed.specs.File.{said, following, wordsIn}
 use Rattle.packed.specs.Promise.{NotVersionOne, BadLength, Unpacked}
@@ -154,7 +155,7 @@ module _ {file words : List ℕ} (u : Unpacks file words) where
       let (k, read, written) = tables-writes h n refl in
       let same : k ≡ g = reads-unique words read e in
       let tabled = rw same at (written .table) in
-      let (buffer, enough) = roomy 4096 in
+      let (buffer, enough) = roomy limit in
       with-night (record { unpacks = u; grammar = e; accepted = accepted; tabled = tabled })
       (night-ends words after e accepted tabled buffer buffer enough enough)
 

@@ -8,6 +8,7 @@ use lib.ListN.{length, take}
 use Rattle.answers.specs.Refusals.{number, broken-layout}
 use Rattle.grammar.specs.Words.{Grammar, layout, reads, faults}
 use Rattle.grammar.specs.Refusals.{Accepted}
+use Rattle.grammar.specs.Terms.{limit}
 use Rattle.tables.specs.Table.{HasTable}
 use Rattle.tables.specs.Promise.{Tables}
 use Rattle.tables.specs.declared.TableAnswer.the-variants.{Refused}
@@ -40,7 +41,7 @@ pub data FirstLine (words text : List ℕ) (so : Piece) : Type 0 where
 pub data OfWords (words table text : List ℕ) (so : Piece) : Type 0 where
   refused-words : {before : List ℕ} {number place : ℕ} → 896 ≤ length before → Tables words before (Refused number place) table →
       OneLine number place text so → OfWords words table text so
-  accepted : {g : Grammar} → layout words ≡ reads g → Accepted g → HasTable g table → SuiteLine g (length words) text so →
+  accepted : {g : Grammar} → layout words ≡ reads g → Accepted limit g → HasTable g table → SuiteLine g (length words) text so →
       OfWords words table text so
 
 -- of a file: with whatever clear marks, the front of the text is the text so far

@@ -11,6 +11,7 @@ use Rattle.packed.specs.Promise.{NotVersionOne, BadLength, Unpacked}
 use Rattle.packed.specs.declared.FileAnswer.the-variants as file-answer
 use Rattle.grammar.specs.Words.{Grammar, R, layout, reads}
 use Rattle.grammar.specs.Refusals.{Accepted}
+use Rattle.grammar.specs.Terms.{limit}
 use Rattle.tables.specs.Table.{HasTable}
 use Rattle.tables.specs.Promise.{Tables}
 use Rattle.tables.specs.declared.TableAnswer.the-variants as table-answer
@@ -39,7 +40,7 @@ pub record Unpacks (file words : List ℕ) : Type 0 where
 pub record Accepts (file words table : List ℕ) (g : Grammar) : Type 0 where
   pub unpacks : Unpacks file words
   pub grammar : layout words ≡ reads g
-  pub accepted : Accepted g
+  pub accepted : Accepted limit g
   pub tabled : HasTable g table
 
 -- THE TEXT of a file. A file has at most 8,707 words, a table at most 896.

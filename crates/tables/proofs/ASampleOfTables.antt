@@ -18,6 +18,7 @@ use Rattle.grammar.proofs.LayoutExact.{in-bounds}
 use Rattle.grammar.specs.Certificates.{symbolSize, wordSize, othersSize, AreFigures}
 use Rattle.grammar.proofs.FigureTest.{each-at, figures}
 use Rattle.grammar.specs.Samples.{D, D-words, D-table}
+use Rattle.grammar.specs.Terms.{measure, limit}
 use Rattle.grammar.proofs.ASampleOfWords.{D-reads, no-words, ends-early, no-rules}
 use Rattle.tables.specs.Table.{IsTable, totalEntry}
 use Rattle.tables.specs.Promise.{Tables, refused, row-4, row-5, row-6, row-3, done, Tested, its, not-its}
@@ -26,7 +27,7 @@ use Rattle.tables.specs.declared.TableTest.the-variants.{Its, NotIts}
 use Rattle.tables.specs.TableCertificates.{figuresOf}
 
 -- "tables of D: 3 0 0 65535 65535, 2 3 1 0 0, 1 4 3 2 0, then 3 7 4 3 4 5"
-D-figures : AreFigures D (figuresOf D D-table)
+D-figures : AreFigures measure D (figuresOf D D-table)
 unfolding wordSize symbolSize othersSize
 D-figures = figures D (figuresOf D D-table) refl (in-bounds D-words D-reads)
 
@@ -48,11 +49,11 @@ D-trees A lt = D-figures .leasts A lt .tree
 D-reached : AllReached D
 D-reached A lt = open-reached (D-figures .contexts A lt .tree)
 
-D-fits : AllFit D
+D-fits : AllFit limit D
 D-fits r l = record {
   total = totalEntry D D-table r;
   is = D-figures .totals r l;
-  within = leb-true _ 4096 (each-at (λ r. leb (totalEntry D D-table r) 4096) 6 refl r l);
+  within = leb-true _ limit (each-at (λ r. leb (totalEntry D D-table r) limit) 6 refl r l);
 }
 
 -- into 22 words it is written, and the last of them keeps its content; into 20 it does not fit
@@ -64,7 +65,7 @@ pub D-too-long : Tables D-words (replicate 20 9) (refused (too-short 21)) (repli
 D-too-long = row-3 D-reads D-trees D-reached D-fits (omega arith)
 
 -- and `test` takes what was written, and nothing shorter
-D-accepted : Accepted D
+D-accepted : Accepted limit D
 D-accepted = record { trees = D-trees; reached = D-reached; fit = D-fits }
 
 pub D-table-its : Tested D-words (D-table ++ 9 ∷ []) (Its 6)

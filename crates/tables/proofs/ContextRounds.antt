@@ -13,9 +13,9 @@ use native.Mathlib.Decide.{ℕ-discrete}
 use lib.ListN.{length, getD}
 use lib.Seq.{getD-set-same, getD-set-other}
 use Rattle.grammar.specs.Words.{Grammar, RuleAt}
-use Rattle.grammar.specs.Measure.{plain}
+use Rattle.grammar.specs.Terms.{measure}
 use Rattle.layout.specs.Rules.{rightAt}
-use Rattle.grammar.specs.Caps.{plainCap, OfOpen}
+use Rattle.grammar.specs.Caps.{OfOpen, measureCap}
 use Rattle.grammar.specs.Certificates.{wordSize, Holds, othersSize}
 use Rattle.grammar.proofs.AtRest.{place-figure}
 use Rattle.tables.specs.Figures.{figure, Has, capped, Lowered, fell, stayed, LeastsDone, ContextsSound, ContextQuiet}
@@ -30,7 +30,7 @@ use Rattle.layout.specs.View.{View}
 use Rattle.layout.proofs.RulesInView.{viewed-rule, viewed-left, viewed-right, viewed-room}
 
 abbrev OpenCut : Grammar → ℕ → ℕ → Type 0
-OpenCut g A y = OfOpen plain (plainCap 4096) g A y
+OpenCut g A y = OfOpen measure measureCap g A y
 
 -- what a context is lowered to, so it is the cut of what some open tree costs, keeps the contexts sound
 lowered-sound : {g : Grammar} {us us′ : List ℕ} {A to f : ℕ} → Lowered us A to us′ f → OpenCut g A to →
@@ -91,13 +91,13 @@ module _ (g : Grammar) (vs : List ℕ) (whole : ℕ) where
 
 -- a rule, its size by the leasts, and the contexts at its turn
 module _ {g : Grammar} {k B : ℕ} {w : List ℕ} (r : RuleAt g k B w) {vs us seen : List ℕ} {size : ℕ}
-    (is : size ≡ 1 + wordSize plain g (figure vs) w) (room : g .N ≤ length us) (stands : Stands g vs us seen) where
+    (is : size ≡ 1 + wordSize measure g (figure vs) w) (room : g .N ≤ length us) (stands : Stands g vs us seen) where
   -- the whole is at least the least of the symbol at a place, and this is what is left without it
   module _ (i A : ℕ) (h : Holds w i A) (l : A < g .N) where
     part-of-whole : figure vs A ≤ figure us B + size
     part-of-whole = omega (arith, size-apart g (figure vs) w i A h l)
 
-    left-of-whole : figure us B + size - figure vs A ≡ figure us B + (1 + othersSize plain g (figure vs) w i)
+    left-of-whole : figure us B + size - figure vs A ≡ figure us B + (1 + othersSize measure g (figure vs) w i)
     left-of-whole = omega (arith, size-apart g (figure vs) w i A h l)
 
   -- where the rule is tried its left side has a context: while it had none, none was seen
@@ -110,7 +110,7 @@ module _ {g : Grammar} {k B : ℕ} {w : List ℕ} (r : RuleAt g k B w) {vs us se
 
   -- no place is above what the rule, tried, lowers it to
   tried-low : {us′ : List ℕ} {f : ℕ} → PlacesStep (g .N) (figure us B + size) vs w us us′ f → (i A : ℕ) → Holds w i A → A < g .N →
-      figure us′ A ≤ capped (figure us B + (1 + othersSize plain g (figure vs) w i))
+      figure us′ A ≤ capped (figure us B + (1 + othersSize measure g (figure vs) w i))
   tried-low ps i A h l =
       rw (left-of-whole i A h l) at (places-low g vs (figure us B + size) ps room i A h l (part-of-whole i A h l))
 
@@ -122,7 +122,7 @@ module _ {g : Grammar} {k B : ℕ} {w : List ℕ} (r : RuleAt g k B w) {vs us se
       opens : Opens g vs (figure us B + size) w
       opens i A h l =
           let y = stands .sound .of-open B (r .left) (unseen-has differs) in
-          rw (left-of-whole i A h l) (place-figure plain (plainCap 4096) g (figure vs) (done-certificate done) i A r h l y)
+          rw (left-of-whole i A h l) (place-figure measure measureCap g (figure vs) (done-certificate done) i A r h l y)
 
   step-tried : {us′ seen′ : List ℕ} {f : ℕ} → ContextStep (g .N) size vs k B w us seen us′ seen′ f → Has seen′ k →
       Tried g vs us′ B w (figure seen′ k)
@@ -142,7 +142,7 @@ module _ {g : Grammar} {k B : ℕ} {w : List ℕ} (r : RuleAt g k B w) {vs us se
 
   step-still : {us′ seen′ : List ℕ} {f : ℕ} → ContextStep (g .N) size vs k B w us seen us′ seen′ f → f ≡ 0 →
       (us′ ≡ us) × (Has us B → (i A : ℕ) → Holds w i A → A < g .N →
-      figure us A ≤ capped (figure us B + (1 + othersSize plain g (figure vs) w i)))
+      figure us A ≤ capped (figure us B + (1 + othersSize measure g (figure vs) w i)))
   step-still (as-seen e) none = (refl, λ has. rw e (stands .of-seen k B w r (rw e at has) .low))
   step-still (unseen long small differs ps) none =
       let q = places-still g vs (figure us B + size) ps none in

@@ -9,9 +9,9 @@ use Prim.Native.Nat.{ℕ, _+_, _≤_, _<_}
 use native.Mathlib.Omega.{arith}
 use lib.ListN.{length, getD}
 use Rattle.grammar.specs.Words.{Grammar, RuleAt}
-use Rattle.grammar.specs.Measure.{plain}
+use Rattle.grammar.specs.Terms.{measure}
 use Rattle.layout.specs.Rules.{rightAt}
-use Rattle.grammar.specs.Caps.{plainCap, OfTree}
+use Rattle.grammar.specs.Caps.{OfTree, measureCap}
 use Rattle.grammar.specs.Certificates.{wordSize}
 use Rattle.grammar.proofs.AtRest.{rule-figure}
 use Rattle.grammar.proofs.LayoutExact.{in-bounds, rule-short}
@@ -41,16 +41,16 @@ step-length (tried x s l) = lowered-length l
 
 module _ (g : Grammar) {A : ℕ} {w : List ℕ} {k : ℕ} (r : RuleAt g k A w) (vs : List ℕ) (room : g .N ≤ length vs) where
   -- the size of a rule whose symbols have figures is such a figure
-  size-of-tree : {x : ℕ} → LeastsSound g vs → SizeOf (g .N) vs w x → OfTree plain (plainCap 4096) g A (capped x)
+  size-of-tree : {x : ℕ} → LeastsSound g vs → SizeOf (g .N) vs w x → OfTree measure measureCap g A (capped x)
   size-of-tree sound s =
-      rw (s .is g refl) (rule-figure plain (plainCap 4096) g (figure vs) r (λ B m l. sound B l (s .have B m l)))
+      rw (s .is g refl) (rule-figure measure measureCap g (figure vs) r (λ B m l. sound B l (s .have B m l)))
 
   lowered-sound : {x n : ℕ} {us : List ℕ} → SizeOf (g .N) vs w x → Lowered vs A (capped x) us n →
       LeastsSound g vs → LeastsSound g us
-  lowered-sound s d sound = lowered-known (λ B y. OfTree plain (plainCap 4096) g B y) (g .N) d (size-of-tree sound s) sound
+  lowered-sound s d sound = lowered-known (λ B y. OfTree measure measureCap g B y) (g .N) d (size-of-tree sound s) sound
 
   lowered-still : {x n : ℕ} {us : List ℕ} → SizeOf (g .N) vs w x → Lowered vs A (capped x) us n → n ≡ 0 →
-      (us ≡ vs) × (figure vs A ≤ capped (1 + wordSize plain g (figure vs) w))
+      (us ≡ vs) × (figure vs A ≤ capped (1 + wordSize measure g (figure vs) w))
   lowered-still s (fell h l) e = absurd (omega arith)
   lowered-still s (stayed h) e = (refl, rw (s .is g refl) at (h (omega (arith, r .left))))
 
@@ -60,7 +60,7 @@ module _ (g : Grammar) {A : ℕ} {w : List ℕ} {k : ℕ} (r : RuleAt g k A w) (
   step-keeps (tried x s l) sound = lowered-sound s l sound
 
   step-still : {n : ℕ} {us : List ℕ} → length w ≤ 32 → LeastStep A w (g .N) vs us n → n ≡ 0 →
-      (us ≡ vs) × (LeastsSound g vs → HaveIn (g .N) vs w → figure vs A ≤ capped (1 + wordSize plain g (figure vs) w))
+      (us ≡ vs) × (LeastsSound g vs → HaveIn (g .N) vs w → figure vs A ≤ capped (1 + wordSize measure g (figure vs) w))
   step-still short (too-many h) e = (refl, λ sound have. quiet-too-many g vs sound w A short h have)
   step-still short (not-yet h) e = (refl, λ sound have. absurd (h have))
   step-still short (tried x s l) e = let (q, z) = lowered-still s l e in (q, λ sound have. z)

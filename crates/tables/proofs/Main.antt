@@ -9,7 +9,7 @@ use lib.ListN.{getD, take}
 use Rattle.answers.specs.Refusals.{Refusal, broken-layout, no-tree, unreached, oversize}
 use Rattle.grammar.specs.Words.{Grammar, R, layout, reads, faults, Are, InBounds, FaultAt}
 use Rattle.layout.specs.Judge.{placesOf}
-use Rattle.grammar.specs.Measure.{plain}
+use Rattle.grammar.specs.Terms.{measure, limit}
 use Rattle.grammar.specs.Refusals.{Lowest, NoTree, AllTrees, Unreached, AllReached, Oversize, AllFit, Accepted}
 use Rattle.grammar.specs.Certificates.{Leasts, Contexts}
 use Rattle.grammar.specs.Samples.{D, empty-rule, D-table, loop}
@@ -57,7 +57,7 @@ pub computed-table : {g : Grammar} → InBounds g → (ws : List ℕ) → So (pa
 computed-table = TableComputed.computed-table
 
 -- Whether a lent table is the grammar's is decided.
-pub tabled? : (table : List ℕ) (g : Grammar) → InBounds g → Accepted g → Dec (HasTable g table)
+pub tabled? : (table : List ℕ) (g : Grammar) → InBounds g → Accepted limit g → Dec (HasTable g table)
 tabled? = TestSettles.tabled?
 
 -- What is read of a lent table at the places of an entry or a total is what its first 5N + R words have there.
@@ -68,20 +68,20 @@ pub total-front : (g : Grammar) (ws : List ℕ) (r : ℕ) → r < R g → totalE
 total-front = TablePlaces.total-front
 
 -- Words worked out from leasts and contexts, each choice the first that comes to its figure, are the table.
-pub worked-out : (g : Grammar) (v u : ℕ → ℕ) → InBounds g → Leasts plain g v → Contexts plain g v u →
+pub worked-out : (g : Grammar) (v u : ℕ → ℕ) → InBounds g → Leasts measure g v → Contexts measure g v u →
     {ws : List ℕ} → WorkedOut g v u ws → IsTable g ws
 worked-out = TableWorkedOut.worked-out
 
 -- If no Total is above 4,096, its words are 16-bit words; a least and a context of one nonterminal are together 4,096 at most.
-pub table-words-fit : {g : Grammar} {ws : List ℕ} → InBounds g → AllFit g → IsTable g ws → (i : ℕ) → getD ws i 0 < 65536
+pub table-words-fit : {g : Grammar} {ws : List ℕ} → InBounds g → AllFit limit g → IsTable g ws → (i : ℕ) → getD ws i 0 < 65536
 table-words-fit = TableFits.table-words-fit
 
-pub sizes-fit : {g : Grammar} {ws : List ℕ} → InBounds g → AllFit g → IsTable g ws →
-    (A : ℕ) → A < g .N → entry ws A 0 + entry ws A 2 ≤ 4096
+pub sizes-fit : {g : Grammar} {ws : List ℕ} → InBounds g → AllFit limit g → IsTable g ws →
+    (A : ℕ) → A < g .N → entry ws A 0 + entry ws A 2 ≤ limit
 sizes-fit = TableFits.sizes-fit
 
-pub total-fits : {g : Grammar} {ws : List ℕ} → InBounds g → AllFit g → IsTable g ws →
-    (r : ℕ) → r < R g → totalEntry g ws r ≤ 4096
+pub total-fits : {g : Grammar} {ws : List ℕ} → InBounds g → AllFit limit g → IsTable g ws →
+    (r : ℕ) → r < R g → totalEntry g ws r ≤ limit
 total-fits = TableFits.total-fits
 
 -- TABLES. Its promise allows exactly one outcome, answer and buffer, for each words and each buffer before.
@@ -151,7 +151,7 @@ pub test-unreached : (words table : List ℕ) {a : TableTest} → Tested words t
 test-unreached = TestSettles.test-unreached
 
 pub test-oversize : (words table : List ℕ) {a : TableTest} → Tested words table a →
-    (r : ℕ) → (a ≡ refusedTest (oversize r)) ↔ Are words (λ g. AllTrees g × AllReached g × Lowest (Oversize g) r)
+    (r : ℕ) → (a ≡ refusedTest (oversize r)) ↔ Are words (λ g. AllTrees g × AllReached g × Lowest (Oversize limit g) r)
 test-oversize = TestSettles.test-oversize
 
 pub test-its : (words table : List ℕ) {a : TableTest} → Tested words table a →
@@ -159,7 +159,7 @@ pub test-its : (words table : List ℕ) {a : TableTest} → Tested words table a
 test-its = TestSettles.test-its
 
 pub test-not-its : (words table : List ℕ) {a : TableTest} → Tested words table a →
-    (a ≡ NotIts) ↔ Are words (λ g. Accepted g × ¬ HasTable g table)
+    (a ≡ NotIts) ↔ Are words (λ g. Accepted limit g × ¬ HasTable g table)
 test-not-its = TestSettles.test-not-its
 
 -- Beside the answer that the table is its own stand the places of the grammar's rules, as `layout::read` has them.

@@ -10,6 +10,8 @@ use Rattle.answers.specs.Buffers.{over}
 use Rattle.grammar.specs.Words.{Grammar, RuleAt, R, InBounds, layout, reads}
 use Rattle.layout.specs.Judge.{placesOf}
 use Rattle.grammar.specs.Refusals.{AllFit, Accepted}
+use Rattle.grammar.specs.Terms.{limit}
+use Rattle.grammar.specs.Caps.{ceiling}
 use Rattle.grammar.proofs.LayoutExact.{in-bounds, reads-unique}
 use Rattle.grammar.proofs.RuleNumbers.{rule-number}
 use Rattle.grammar.proofs.CappedTotals.{all-fit-exact}
@@ -57,16 +59,16 @@ contexts-start {ws} {xs = xs} p e =
 
 -- 5, or what goes on
 module _ {ws places : List ℕ} {n start rules : ℕ} (g : Grammar) (view : View ws places n rules g) (first : start ≡ g .start)
-    {vs sizes : List ℕ} (sized : LeastsSized g vs sizes) {found : Found} (search : FirstAbove vs n 4097 found) where
-  searched-leasts : FirstAbove vs (g .N) 4097 found
-  searched-leasts = subst (λ (m : ℕ). FirstAbove vs m 4097 found) (view .nonterminals) search
+    {vs sizes : List ℕ} (sized : LeastsSized g vs sizes) {found : Found} (search : FirstAbove vs n ceiling found) where
+  searched-leasts : FirstAbove vs (g .N) ceiling found
+  searched-leasts = subst (λ (m : ℕ). FirstAbove vs m ceiling found) (view .nonterminals) search
 
   pub refuses-5 : {before : List ℕ} {a : ℕ} {r : TableAnswer} → found ≡ At a → r ≡ Refused 5 a → Tables ws before r before
   refuses-5 {a = a} e q =
-      rw q (row-5 (view .is) (row-5-found g vs (sized .rest) a (subst (FirstAbove vs (g .N) 4097) e searched-leasts)))
+      rw q (row-5 (view .is) (row-5-found g vs (sized .rest) a (subst (FirstAbove vs (g .N) ceiling) e searched-leasts)))
 
   leasts-done : found ≡ Nothing → LeastsDone g vs
-  leasts-done e = leasts-found g vs (sized .rest) (subst (FirstAbove vs (g .N) 4097) e searched-leasts)
+  leasts-done e = leasts-found g vs (sized .rest) (subst (FirstAbove vs (g .N) ceiling) e searched-leasts)
 
   pub grown : found ≡ Nothing → Grown ws places n start rules vs sizes
   grown e = record {
@@ -79,14 +81,14 @@ module _ {ws places : List ℕ} {n start rules : ℕ} (g : Grammar) (view : View
 
 -- 6, or what goes on
 module _ {ws places : List ℕ} {n start rules : ℕ} {vs sizes : List ℕ} (p : Grown ws places n start rules vs sizes) {us : List ℕ}
-    (rest : ContextsRest (p .grammar) vs us) {found : Found} (search : FirstAbove us n 4097 found) where
-  searched-contexts : FirstAbove us (p .grammar .N) 4097 found
-  searched-contexts = subst (λ (m : ℕ). FirstAbove us m 4097 found) (p .view .nonterminals) search
+    (rest : ContextsRest (p .grammar) vs us) {found : Found} (search : FirstAbove us n ceiling found) where
+  searched-contexts : FirstAbove us (p .grammar .N) ceiling found
+  searched-contexts = subst (λ (m : ℕ). FirstAbove us m ceiling found) (p .view .nonterminals) search
 
   pub refuses-6 : {before : List ℕ} {a : ℕ} {r : TableAnswer} → found ≡ At a → r ≡ Refused 6 a → Tables ws before r before
   refuses-6 {a = a} e q =
       rw q (row-6 (p .view .is) (all-trees (p .grammar) vs (p .leasts))
-      (row-6-found (p .grammar) vs (p .leasts) us rest a (subst (FirstAbove us (p .grammar .N) 4097) e searched-contexts)))
+      (row-6-found (p .grammar) vs (p .leasts) us rest a (subst (FirstAbove us (p .grammar .N) ceiling) e searched-contexts)))
 
   pub placed : found ≡ Nothing → Placed ws places n rules vs sizes us
   placed e = record {
@@ -94,7 +96,8 @@ module _ {ws places : List ℕ} {n start rules : ℕ} {vs sizes : List ℕ} (p :
     view = p .view;
     leasts = p .leasts;
     sizes-are = p .sizes-are;
-    contexts = contexts-found (p .grammar) vs (p .leasts) us rest (subst (FirstAbove us (p .grammar .N) 4097) e searched-contexts);
+    contexts = contexts-found (p .grammar) vs (p .leasts) us rest
+        (subst (FirstAbove us (p .grammar .N) ceiling) e searched-contexts);
   }
 
 -- the leasts and the contexts have a place for each nonterminal
@@ -117,26 +120,26 @@ all-placed p c q = let (of-leasts, of-contexts) = placed-room p in record {
 -- 7, 3, or the table
 module _ {ws places : List ℕ} {n rules : ℕ} {vs sizes us : List ℕ} (p : Placed ws places n rules vs sizes us) {totals : List ℕ}
     (of-totals : TotalsOf (p .grammar) us sizes totals) (long : 256 ≤ length totals)
-    {found : Found} (search : FirstAbove totals rules 4096 found) where
+    {found : Found} (search : FirstAbove totals rules limit found) where
   ok : InBounds (p .grammar)
   ok = in-bounds ws (p .view .is)
 
   enough : R (p .grammar) ≤ length totals
   enough = omega (arith, ok .at-most-256)
 
-  searched-totals : FirstAbove totals (R (p .grammar)) 4096 found
-  searched-totals = subst (λ (m : ℕ). FirstAbove totals m 4096 found) (p .view .all-rules) search
+  searched-totals : FirstAbove totals (R (p .grammar)) limit found
+  searched-totals = subst (λ (m : ℕ). FirstAbove totals m limit found) (p .view .all-rules) search
 
   pub refuses-7 : {before : List ℕ} {a : ℕ} {r : TableAnswer} → found ≡ At a → r ≡ Refused 7 a → Tables ws before r before
   refuses-7 {a = a} e q =
       rw q (row-7 (p .view .is) (all-trees (p .grammar) vs (p .leasts)) (all-reached (p .grammar) vs (p .leasts) us (p .contexts))
       (row-7-found (p .grammar) vs (p .leasts) us (p .contexts) sizes totals (p .sizes-are) of-totals enough ok a
-      (subst (FirstAbove totals (R (p .grammar)) 4096) e searched-totals)))
+      (subst (FirstAbove totals (R (p .grammar)) limit) e searched-totals)))
 
-  pub fits : found ≡ Nothing → AllFit (p .grammar)
+  pub fits : found ≡ Nothing → AllFit limit (p .grammar)
   fits e =
       all-fit (p .grammar) vs (p .leasts) us (p .contexts) sizes totals (p .sizes-are) of-totals enough ok
-      (subst (FirstAbove totals (R (p .grammar)) 4096) e searched-totals)
+      (subst (FirstAbove totals (R (p .grammar)) limit) e searched-totals)
 
   needed : 5 * n + rules ≡ tableLength (p .grammar)
   needed = let a = p .view .nonterminals in let b = p .view .all-rules in omega arith
@@ -149,9 +152,9 @@ module _ {ws places : List ℕ} {n rules : ℕ} {vs sizes us : List ℕ} (p : Pl
 
   -- no total is cut
   exact : found ≡ Nothing → (k A : ℕ) (w : List ℕ) → RuleAt (p .grammar) k A w → getD totals k 0 ≡ figure us A + getD sizes k 0
-  exact e k A w r = go (subst (FirstAbove totals (R (p .grammar)) 4096) e searched-totals)
+  exact e k A w r = go (subst (FirstAbove totals (R (p .grammar)) limit) e searched-totals)
     where
-      go : FirstAbove totals (R (p .grammar)) 4096 Nothing → getD totals k 0 ≡ figure us A + getD sizes k 0
+      go : FirstAbove totals (R (p .grammar)) limit Nothing → getD totals k 0 ≡ figure us A + getD sizes k 0
       go (found-none all) =
           let low = all k (rule-number r) in
           let l = rule-number r in
@@ -170,7 +173,7 @@ module _ {ws places : List ℕ} {n rules : ℕ} {vs sizes us : List ℕ} (p : Pl
       after ≡ over (tableWords n vs chosen us leads totals rules) before → Tables ws before (Done (5 * n + rules)) after
   writes chosen leads {before} e l c q w =
       let all = figures (p .grammar) vs (p .leasts) us (p .contexts) in
-      let (leasts, contexts) = all-fit-exact (p .grammar) (figure vs) (figure us) all (fits e) in
+      let (leasts, contexts) = all-fit-exact limit (omega arith) (p .grammar) (figure vs) (figure us) all (fits e) in
       let t = table-found (p .grammar) ok vs us sizes totals chosen leads leasts contexts (p .sizes-are) (exact e)
       (subst (ChosenOf (p .grammar) vs sizes chosen) (p .view .all-rules) c)
       (subst (λ (m : ℕ). PlacesOf (p .grammar) vs us totals leads (32 * m)) (p .view .all-rules) q) in
@@ -179,20 +182,21 @@ module _ {ws places : List ℕ} {n rules : ℕ} {vs sizes us : List ℕ} (p : Pl
 
 -- a lent table, tested: it is the grammar's, or it is not, and then rows 5 to 7 are those of a table without room
 module _ {ws places : List ℕ} {n start rules : ℕ} (p : Begun ws places n start rules) (table : List ℕ) where
-  pub tests-its : (r : Bool) → r ≡ true → Says r (Accepted (p .grammar) × HasTable (p .grammar) table) →
+  pub tests-its : (r : Bool) → r ≡ true → Says r (Accepted limit (p .grammar) × HasTable (p .grammar) table) →
       Tested ws table (test.Its rules)
   tests-its true e z = rw (p .view .all-rules) (its (p .view .is) (z .0) (z .1))
   tests-its false e z = absurd (false≢true e)
 
-  pub not-own : (r : Bool) → r ≡ false → Says r (Accepted (p .grammar) × HasTable (p .grammar) table) → Accepted (p .grammar) →
+  pub not-own : (r : Bool) → r ≡ false → Says r (Accepted limit (p .grammar) × HasTable (p .grammar) table) →
+      Accepted limit (p .grammar) →
       ¬ HasTable (p .grammar) table
   not-own true e z a h = absurd (false≢true (sym e))
   not-own false e z a h = z (a, h)
 
-  module _ (other : Accepted (p .grammar) → ¬ HasTable (p .grammar) table) where
-    accepts : {g : Grammar} → layout ws ≡ reads g → Accepted g → Tested ws table test.NotIts
+  module _ (other : Accepted limit (p .grammar) → ¬ HasTable (p .grammar) table) where
+    accepts : {g : Grammar} → layout ws ≡ reads g → Accepted limit g → Tested ws table test.NotIts
     accepts {g} e a =
-        let b : Accepted (p .grammar) = rw (reads-unique ws e (p .view .is)) at a in
+        let b : Accepted limit (p .grammar) = rw (reads-unique ws e (p .view .is)) at a in
         not-its (p .view .is) b (other b)
 
     -- what is said of the answer without room, Done or refused by 3 or not

@@ -9,7 +9,7 @@ use borrow.Author.Count.{below-more}
 use lib.ListN.{length, getD, drop, drop-of-length-le}
 use lib.Seq.{drop-cons}
 use Rattle.grammar.specs.Words.{Grammar}
-use Rattle.grammar.specs.Measure.{plain}
+use Rattle.grammar.specs.Terms.{measure}
 use Rattle.grammar.specs.Certificates.{symbolSize, wordSize, Holds}
 use Rattle.grammar.proofs.Certificate.{symbol-nonterminal, symbol-terminal}
 use Rattle.grammar.proofs.ContextsExist.{holds-below}
@@ -22,7 +22,7 @@ module _ (table : List ℕ) (n k t : ℕ) (w : List ℕ) where
 
   pub record Summed (i sum : ℕ) : Type 0 where
     pub passed : (j : ℕ) → j < i → PassesAt j
-    pub rest : (g : Grammar) → n ≡ g .N → sum + wordSize plain g (leastIn table) (drop i w) ≡ sizeIn g table w
+    pub rest : (g : Grammar) → n ≡ g .N → sum + wordSize measure g (leastIn table) (drop i w) ≡ sizeIn g table w
     pub some : 1 ≤ sum
     pub small : sum ≤ 1 + 65535 * i
 
@@ -36,12 +36,12 @@ module _ {table : List ℕ} {n k t : ℕ} {w : List ℕ} where
     place-fails l fails = one-fails (λ all. fails (all i (getD w i 0) (holds-there w i there) l))
 
     module _ {sum : ℕ} (so-far : Summed table n k t w i sum) where
-      summed-more : (x : ℕ) → x ≤ 65535 → ((g : Grammar) → n ≡ g .N → symbolSize plain g (leastIn table) (getD w i 0) ≡ x) →
+      summed-more : (x : ℕ) → x ≤ 65535 → ((g : Grammar) → n ≡ g .N → symbolSize measure g (leastIn table) (getD w i 0) ≡ x) →
           (getD w i 0 < n → PlacePasses table (getD w i 0) k i t) → Summed table n k t w (i + 1) (sum + x)
       unfolding wordSize
       summed-more x l size here = record {
         passed = below-more (PassesAt table n k t w) i (so-far .passed) (λ B h. rw (held-there w i B h) at here);
-        rest = λ g e. omega (arith, size g e, so-far .rest g e, ap (wordSize plain g (leastIn table)) next);
+        rest = λ g e. omega (arith, size g e, so-far .rest g e, ap (wordSize measure g (leastIn table)) next);
         some = omega (arith, so-far .some);
         small = omega (arith, so-far .small);
       }
@@ -53,11 +53,11 @@ module _ {table : List ℕ} {n k t : ℕ} {w : List ℕ} where
           PlacePasses table (getD w i 0) k i t → Summed table n k t w (i + 1) (sum + x)
       summed-nonterminal x e h l p =
           summed-more x (omega arith)
-          (λ g q. omega (arith, symbol-nonterminal plain g (leastIn table) (getD w i 0) (omega arith))) (λ l. p)
+          (λ g q. omega (arith, symbol-nonterminal measure g (leastIn table) (getD w i 0) (omega arith))) (λ l. p)
 
       pub summed-terminal : n ≤ getD w i 0 → Summed table n k t w (i + 1) (sum + 1)
       summed-terminal l =
-          summed-more 1 (omega arith) (λ g e. symbol-terminal plain g (leastIn table) (getD w i 0) (omega arith))
+          summed-more 1 (omega arith) (λ g e. symbol-terminal measure g (leastIn table) (getD w i 0) (omega arith))
           (λ h. absurd (omega arith))
 
   pub summed-all : {i sum : ℕ} → i ≡ length w → Summed table n k t w i sum → SizePasses table n k t w sum
@@ -68,4 +68,4 @@ module _ {table : List ℕ} {n k t : ℕ} {w : List ℕ} where
       end = let past : length w ≤ i = omega arith in drop-of-length-le w past
 
       size : (g : Grammar) → n ≡ g .N → sum ≡ sizeIn g table w
-      size g q = omega (arith, z .rest g q, ap (wordSize plain g (leastIn table)) end)
+      size g q = omega (arith, z .rest g q, ap (wordSize measure g (leastIn table)) end)

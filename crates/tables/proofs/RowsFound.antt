@@ -10,12 +10,12 @@ use mathlib.Core.List.{List}
 use lib.ListN.{length, set, getD-replicate, length-replicate}
 use lib.Seq.{getD-set-same, getD-set-other}
 use Rattle.grammar.specs.Words.{Grammar, RuleAt, R, InBounds}
-use Rattle.grammar.specs.Measure.{plain}
+use Rattle.grammar.specs.Terms.{measure, limit}
 use Rattle.grammar.specs.Refusals.{Lowest, NoTree, AllTrees, Unreached, AllReached, Oversize, AllFit}
 use Rattle.grammar.proofs.LayoutExact.{rule-at}
 use Rattle.grammar.proofs.RuleNumbers.{rule-number}
 use Rattle.grammar.proofs.Dead.{open-reached}
-use Rattle.grammar.specs.Caps.{plainCap, OfOpen, CappedFigures, stoppedTotal, LeastsAtRest, ContextsAtRest}
+use Rattle.grammar.specs.Caps.{OfOpen, CappedFigures, stoppedTotal, LeastsAtRest, ContextsAtRest, ceiling, measureCap}
 use Rattle.grammar.proofs.CappedLeasts.{certificate-trees}
 use Rattle.grammar.proofs.CappedContexts.{certificate-reached, start-figure}
 use Rattle.grammar.proofs.CappedTotals.{oversize-exact, fits-exact}
@@ -59,8 +59,8 @@ module _ (g : Grammar) where
       at-start = getD-set-same xs (g .start) 0 65535 (omega (arith, long))
 
       go : (A : ℕ) → A < g .N → Has (set xs (g .start) 0) A → Dec (A ≡ g .start) →
-          OfOpen plain (plainCap 4096) g A (figure (set xs (g .start) 0) A)
-      go A lt h (yes q) = rw (q, at-start) (start-figure plain (plainCap 4096) g)
+          OfOpen measure measureCap g A (figure (set xs (g .start) 0) A)
+      go A lt h (yes q) = rw (q, at-start) (start-figure measure measureCap g)
       go A lt h (no d) =
           let kept = getD-set-other xs (g .start) A 0 65535 d in
           let none = ap (λ (l : List ℕ). figure l A) e ∙ getD-replicate 128 A 65535 65535 (omega arith) in
@@ -68,7 +68,7 @@ module _ (g : Grammar) where
 
   -- 5
   module _ (vs : List ℕ) (rest : LeastsRest g vs) where
-    leasts-at-rest : LeastsAtRest plain (plainCap 4096) g (figure vs) (Has vs)
+    leasts-at-rest : LeastsAtRest measure measureCap g (figure vs) (Has vs)
     leasts-at-rest = record {
       figure = rest .sound;
       quiet = λ k A w r have.
@@ -76,26 +76,26 @@ module _ (g : Grammar) where
           (λ e. omega arith, q);
     }
 
-    none-above : (A : ℕ) → A < g .N → 4097 < figure vs A → ¬ Has vs A
+    none-above : (A : ℕ) → A < g .N → ceiling < figure vs A → ¬ Has vs A
     none-above A lt l h = let (t, e) = rest .sound A lt h in omega arith
 
-    pub row-5-found : (a : ℕ) → FirstAbove vs (g .N) 4097 (At a) → Lowest (NoTree g) a
+    pub row-5-found : (a : ℕ) → FirstAbove vs (g .N) ceiling (At a) → Lowest (NoTree g) a
     row-5-found a (found-at lt above before) =
         lowest-where
-        (no-figure-no-tree plain (plainCap 4096) g (figure vs) (Has vs) (has? vs) leasts-at-rest a lt (none-above a lt above))
+        (no-figure-no-tree measure measureCap g (figure vs) (Has vs) (has? vs) leasts-at-rest a lt (none-above a lt above))
         (λ m l z. let b = before m l in z .none (rest .sound m (omega arith) (λ e. omega arith) .0))
 
-    pub leasts-found : FirstAbove vs (g .N) 4097 Nothing → LeastsDone g vs
+    pub leasts-found : FirstAbove vs (g .N) ceiling Nothing → LeastsDone g vs
     leasts-found (found-none all) = record { rest = rest; all = λ A lt e. omega (arith, all A lt) }
 
   module _ (vs : List ℕ) (done : LeastsDone g vs) where
     -- 5 is passed
     pub all-trees : AllTrees g
-    all-trees = certificate-trees plain (plainCap 4096) g (figure vs) (done-certificate done)
+    all-trees = certificate-trees measure measureCap g (figure vs) (done-certificate done)
 
     -- 6
     module _ (us : List ℕ) where
-      contexts-at-rest : ContextsRest g vs us → ContextsAtRest plain (plainCap 4096) g (figure vs) (figure us) (Has us)
+      contexts-at-rest : ContextsRest g vs us → ContextsAtRest measure measureCap g (figure vs) (figure us) (Has us)
       contexts-at-rest rest = record {
         start = λ e. omega (arith, rest .sound .start);
         at-start = rest .sound .start;
@@ -105,28 +105,28 @@ module _ (g : Grammar) where
             (λ e. omega arith, q);
       }
 
-      pub row-6-found : ContextsRest g vs us → (a : ℕ) → FirstAbove us (g .N) 4097 (At a) → Lowest (Unreached g) a
+      pub row-6-found : ContextsRest g vs us → (a : ℕ) → FirstAbove us (g .N) ceiling (At a) → Lowest (Unreached g) a
       row-6-found rest a (found-at lt above before) =
           let none : ¬ Has us a = λ h. let (t, e) = rest .sound .of-open a lt h in omega arith in
           lowest-where
-          (no-figure-unreached plain (plainCap 4096) g (figure vs) (figure us) (Has us) all-trees (contexts-at-rest rest) a lt none)
+          (no-figure-unreached measure measureCap g (figure vs) (figure us) (Has us) all-trees (contexts-at-rest rest) a lt none)
           (λ m l z. let b = before m l in
           z .never (open-reached (rest .sound .of-open m (omega arith) (λ e. omega arith) .0)))
 
-      pub contexts-found : ContextsRest g vs us → FirstAbove us (g .N) 4097 Nothing → ContextsDone g vs us
+      pub contexts-found : ContextsRest g vs us → FirstAbove us (g .N) ceiling Nothing → ContextsDone g vs us
       contexts-found rest (found-none all) = record { rest = rest; all = λ A lt e. omega (arith, all A lt) }
 
       module _ (placed : ContextsDone g vs us) where
-        pub figures : CappedFigures plain (plainCap 4096) g (figure vs) (figure us)
+        pub figures : CappedFigures measure measureCap g (figure vs) (figure us)
         figures = record {
           leasts = done-certificate done;
-          contexts = rest-context-certificate plain (plainCap 4096) g (figure vs) (figure us) (Has us)
+          contexts = rest-context-certificate measure measureCap g (figure vs) (figure us) (Has us)
               (contexts-at-rest (placed .rest)) (placed .all);
         }
 
         -- 6 is passed
         pub all-reached : AllReached g
-        all-reached = certificate-reached plain (plainCap 4096) g (figure vs) (figure us) (figures .contexts)
+        all-reached = certificate-reached measure measureCap g (figure vs) (figure us) (figures .contexts)
 
         -- 7
         module _ (sizes totals : List ℕ) (of-sizes : SizesOf g vs sizes) (of-totals : TotalsOf g us sizes totals)
@@ -138,27 +138,27 @@ module _ (g : Grammar) where
               let s = of-sizes k A w r in
               sym (figure-is totals k 0 (omega arith)) ∙ e ∙ ap (λ (x : ℕ). capped (figure us A + x)) s
 
-          pub row-7-found : (a : ℕ) → FirstAbove totals (R g) 4096 (At a) → Lowest (Oversize g) a
+          pub row-7-found : (a : ℕ) → FirstAbove totals (R g) limit (At a) → Lowest (Oversize limit g) a
           row-7-found a (found-at lt above before) = lowest-where over-it below-it
             where
-              over-it : Oversize g a
+              over-it : Oversize limit g a
               over-it =
                   let (A, w, r) = rule-at ok a lt in
                   let e = total-is r in
-                  oversize-exact g (figure vs) (figure us) figures r .0 (omega arith)
+                  oversize-exact limit (omega arith) g (figure vs) (figure us) figures r .0 (omega arith)
 
-              below-it : (m : ℕ) → m < a → ¬ Oversize g m
+              below-it : (m : ℕ) → m < a → ¬ Oversize limit g m
               below-it m l z =
                   let (A, w, r) = rule-at ok m (omega arith) in
                   let e = total-is r in
                   let b = before m l in
-                  let o = oversize-exact g (figure vs) (figure us) figures r .1 z in
+                  let o = oversize-exact limit (omega arith) g (figure vs) (figure us) figures r .1 z in
                   omega arith
 
           -- 7 is passed
-          pub all-fit : FirstAbove totals (R g) 4096 Nothing → AllFit g
+          pub all-fit : FirstAbove totals (R g) limit Nothing → AllFit limit g
           all-fit (found-none all) r l =
               let (A, w, rule) = rule-at ok r l in
               let e = total-is rule in
               let b = all r l in
-              fits-exact g (figure vs) (figure us) figures rule .0 (omega arith)
+              fits-exact limit (omega arith) g (figure vs) (figure us) figures rule .0 (omega arith)

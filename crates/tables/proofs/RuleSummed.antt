@@ -10,7 +10,7 @@ use lib.ListN.{length, getD, drop, drop-of-length-le}
 use lib.Seq.{drop-cons}
 use Rattle.grammar.specs.Words.{Grammar}
 use Rattle.grammar.specs.Tree.{_∈_}
-use Rattle.grammar.specs.Measure.{plain}
+use Rattle.grammar.specs.Terms.{measure}
 use Rattle.grammar.specs.Certificates.{symbolSize, wordSize}
 use Rattle.grammar.proofs.Certificate.{symbol-nonterminal, symbol-terminal}
 use Rattle.tables.specs.Figures.{figure, Has, HaveIn}
@@ -25,7 +25,7 @@ pub data SymbolSize (n : ℕ) (vs : List ℕ) (s : ℕ) : ℕ → Type 0 where
 -- the sum of the symbols before place i, and one
 pub record Summed (n : ℕ) (vs w : List ℕ) (i sum : ℕ) : Type 0 where
   pub have : HaveIn n vs (drop i w) → HaveIn n vs w
-  pub rest : (g : Grammar) → n ≡ g .N → sum + wordSize plain g (figure vs) (drop i w) ≡ 1 + wordSize plain g (figure vs) w
+  pub rest : (g : Grammar) → n ≡ g .N → sum + wordSize measure g (figure vs) (drop i w) ≡ 1 + wordSize measure g (figure vs) w
   pub small : sum ≤ 1 + 65535 * i
 
 -- a nonterminal's size, as it is read
@@ -33,9 +33,9 @@ pub symbol-read : {n s : ℕ} (vs : List ℕ) → s < n → n ≤ length vs → 
 symbol-read {s = s} vs l room = rw (figure-is vs s 0 (omega arith)) (of-nonterminal l)
 
 module _ (n : ℕ) (vs w : List ℕ) where
-  symbol-is : {s x : ℕ} → SymbolSize n vs s x → (g : Grammar) → n ≡ g .N → symbolSize plain g (figure vs) s ≡ x
-  symbol-is {s} (of-nonterminal h) g e = symbol-nonterminal plain g (figure vs) s (omega arith)
-  symbol-is {s} (of-terminal h) g e = symbol-terminal plain g (figure vs) s (omega arith)
+  symbol-is : {s x : ℕ} → SymbolSize n vs s x → (g : Grammar) → n ≡ g .N → symbolSize measure g (figure vs) s ≡ x
+  symbol-is {s} (of-nonterminal h) g e = symbol-nonterminal measure g (figure vs) s (omega arith)
+  symbol-is {s} (of-terminal h) g e = symbol-terminal measure g (figure vs) s (omega arith)
 
   symbol-has : {s x : ℕ} → SymbolSize n vs s x → ¬ (x ≡ 65535) → s < n → Has vs s
   symbol-has (of-nonterminal h) has l = has
@@ -59,8 +59,8 @@ module _ (n : ℕ) (vs w : List ℕ) where
       have k = so-far .have (rw next (have-more z has k))
 
       rest : (g : Grammar) → n ≡ g .N →
-          sum + x + wordSize plain g (figure vs) (drop (i + 1) w) ≡ 1 + wordSize plain g (figure vs) w
-      rest g e = omega (arith, symbol-is z g e, so-far .rest g e, ap (wordSize plain g (figure vs)) next)
+          sum + x + wordSize measure g (figure vs) (drop (i + 1) w) ≡ 1 + wordSize measure g (figure vs) w
+      rest g e = omega (arith, symbol-is z g e, so-far .rest g e, ap (wordSize measure g (figure vs)) next)
 
   pub summed-all : {i sum : ℕ} → length w ≤ 65535 → i ≡ length w → Summed n vs w i sum → SizeOf n vs w sum
   unfolding wordSize
@@ -72,8 +72,8 @@ module _ (n : ℕ) (vs w : List ℕ) where
       have : HaveIn n vs (drop i w)
       have = rw end (λ B m l. absurd (List·Memᴰ·not-nil m))
 
-      is : (g : Grammar) → n ≡ g .N → sum ≡ 1 + wordSize plain g (figure vs) w
-      is g e = omega (arith, so-far .rest g e, ap (wordSize plain g (figure vs)) end)
+      is : (g : Grammar) → n ≡ g .N → sum ≡ 1 + wordSize measure g (figure vs) w
+      is g e = omega (arith, so-far .rest g e, ap (wordSize measure g (figure vs)) end)
 
   -- a symbol without a size
   symbol-lacks : {s x : ℕ} → SymbolSize n vs s x → x ≡ 65535 → (s < n) × (¬ Has vs s)

@@ -8,6 +8,7 @@ use mathlib.Core.Bool.{Bool}
 use mathlib.Core.List.{List}
 use lib.ListN.{getD}
 use Rattle.grammar.specs.Words.{Grammar, RuleAt, InBounds}
+use Rattle.grammar.specs.Terms.{limit}
 use Rattle.layout.specs.Rules.{rightAt}
 use Rattle.grammar.proofs.LayoutExact.{in-bounds, rule-at, rule-below}
 use Rattle.layout.proofs.RulesByNumber.{left-of-rule, right-of-rule}
@@ -67,7 +68,7 @@ module _ {table : List ℕ} {k t : ℕ} {w : List ℕ} where
   places-fail (one-fails h) e = h
   places-fail (all-pass p l s) e = absurd (omega arith)
 
-  pub rule-passes : (g : Grammar) {A x : ℕ} → t ≤ 4096 → SizePasses table (g .N) k t w x → ¬ (x ≡ 0) →
+  pub rule-passes : (g : Grammar) {A x : ℕ} → t ≤ limit → SizePasses table (g .N) k t w x → ¬ (x ≡ 0) →
       LeftPasses table A k x t ↔ RulePasses g table k t A w
   rule-passes g l (one-fails h) d = absurd (d refl)
   rule-passes g l (all-pass p h size) d =

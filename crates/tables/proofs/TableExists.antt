@@ -8,7 +8,7 @@ use mathlib.Core.List.{List}
 use lib.Dec.{ltb}
 use borrow.Author.Tests.{lt-ltb, le-ltb}
 use Rattle.grammar.specs.Words.{Grammar, R, InBounds}
-use Rattle.grammar.specs.Measure.{plain}
+use Rattle.grammar.specs.Terms.{measure}
 use Rattle.grammar.specs.Least.{Least, Chosen, Context, ContextChoice, Total}
 use Rattle.grammar.specs.Refusals.{AllTrees, AllReached}
 use Rattle.grammar.specs.Certificates.{either, Figures, AreFigures}
@@ -18,7 +18,7 @@ use Rattle.answers.specs.Lists.{tabulate}
 use Rattle.answers.proofs.Tabulate.{length-tabulate, getD-tabulate, Picked, picked}
 
 -- FIGURES IN WORDS
-module _ (g : Grammar) (F : Figures) where
+module _ (g : Grammar) (F : Figures measure) where
   -- the five words of A, and the word at any place
   abbrev five : ℕ → ℕ → ℕ
   five A zero = F .least A
@@ -48,7 +48,8 @@ module _ (g : Grammar) (F : Figures) where
       let e : 5 * g .N + r - 5 * g .N ≡ r = omega arith in
       getD-tabulate word (tableLength g) (5 * g .N + r) (omega arith) ∙ rw (past, e) refl
 
-  pub words-are-table : InBounds g → AreFigures g F → F .rule (g .start) ≡ 65535 → F .place (g .start) ≡ 65535 → IsTable g wordsOf
+  pub words-are-table : InBounds g → AreFigures measure g F → F .rule (g .start) ≡ 65535 → F .place (g .start) ≡ 65535 →
+      IsTable g wordsOf
   unfolding wordsOf
   words-are-table ok f rule place = record {
     long = length-tabulate word (tableLength g);
@@ -65,7 +66,7 @@ module _ (g : Grammar) (F : Figures) where
 record Choice (g : Grammar) (A : ℕ) (z : ℕ × ℕ) : Type 0 where
   start-rule : A ≡ g .start → z .0 ≡ 65535
   start-place : A ≡ g .start → z .1 ≡ 65535
-  other : ¬ (A ≡ g .start) → ContextChoice plain g A (z .0) (z .1)
+  other : ¬ (A ≡ g .start) → ContextChoice measure g A (z .0) (z .1)
 
 module _ (g : Grammar) (ok : InBounds g) (trees : AllTrees g) (reached : AllReached g) where
   a-choice : (A : ℕ) → A < g .N → (z : ℕ × ℕ) × Choice g A z
@@ -75,32 +76,32 @@ module _ (g : Grammar) (ok : InBounds g) (trees : AllTrees g) (reached : AllReac
       start? (yes e) =
           ((65535, 65535), record { start-rule = λ e. refl; start-place = λ e. refl; other = λ d. absurd (d e) })
       start? (no d) =
-          let (k, i, c) = choice-exists plain g ok trees reached A lt d in
+          let (k, i, c) = choice-exists measure g ok trees reached A lt d in
           ((k, i), record { start-rule = λ e. absurd (d e); start-place = λ e. absurd (d e); other = λ d. c })
 
-  v : Picked (Least plain g) (g .N)
-  v = picked 0 (Least plain g) (g .N) (least-exists plain g trees)
+  v : Picked (Least measure g) (g .N)
+  v = picked 0 (Least measure g) (g .N) (least-exists measure g trees)
 
-  k : Picked (Chosen plain g) (g .N)
-  k = picked 0 (Chosen plain g) (g .N) (chosen-exists plain g trees)
+  k : Picked (Chosen measure g) (g .N)
+  k = picked 0 (Chosen measure g) (g .N) (chosen-exists measure g trees)
 
-  u : Picked (Context plain g) (g .N)
-  u = picked 0 (Context plain g) (g .N) (context-exists plain g trees reached)
+  u : Picked (Context measure g) (g .N)
+  u = picked 0 (Context measure g) (g .N) (context-exists measure g trees reached)
 
   c : Picked (Choice g) (g .N)
   c = picked (0, 0) (Choice g) (g .N) a-choice
 
-  t : Picked (Total plain g) (R g)
-  t = picked 0 (Total plain g) (R g) (total-exists plain g ok trees reached)
+  t : Picked (Total measure g) (R g)
+  t = picked 0 (Total measure g) (R g) (total-exists measure g ok trees reached)
 
-  abbrev some-figures : Figures
+  abbrev some-figures : Figures measure
   some-figures =
       record { least = v .f; chosen = k .f; context = u .f; rule = λ A. c .f A .0; place = λ A. c .f A .1; total = t .f }
 
-  pub figures-exist : (F : Figures) × AreFigures g F × (F .rule (g .start) ≡ 65535) × (F .place (g .start) ≡ 65535)
+  pub figures-exist : (F : Figures measure) × AreFigures measure g F × (F .rule (g .start) ≡ 65535) × (F .place (g .start) ≡ 65535)
   figures-exist =
       let s = c .is (g .start) (ok .start-below) in
-      let f : AreFigures g some-figures = record {
+      let f : AreFigures measure g some-figures = record {
         leasts = v .is;
         chosens = k .is;
         contexts = u .is;

@@ -7,7 +7,7 @@ use mathlib.Core.Path.{_≡_, refl}
 use mathlib.Core.List.{List}
 use lib.ListN.{getD, List·getD-eq-default}
 use Rattle.grammar.specs.Words.{Grammar, R, InBounds}
-use Rattle.grammar.specs.Measure.{plain}
+use Rattle.grammar.specs.Terms.{measure, limit}
 use Rattle.grammar.specs.Least.{Total}
 use Rattle.grammar.specs.Refusals.{AllFit}
 use Rattle.grammar.proofs.LayoutExact.{rule-below, rule-short}
@@ -17,16 +17,16 @@ use Rattle.grammar.proofs.TreeOfExists.{beside-holds}
 use Rattle.tables.specs.Table.{IsTable, tableLength, entry, totalEntry}
 use Rattle.tables.proofs.TablePlaces.{at-each-place}
 
-module _ {g : Grammar} {ws : List ℕ} (ok : InBounds g) (fit : AllFit g) (table : IsTable g ws) where
-  pub total-fits : (r : ℕ) → r < R g → totalEntry g ws r ≤ 4096
+module _ {g : Grammar} {ws : List ℕ} (ok : InBounds g) (fit : AllFit limit g) (table : IsTable g ws) where
+  pub total-fits : (r : ℕ) → r < R g → totalEntry g ws r ≤ limit
   total-fits r l = omega (arith, total-unique (table .totals r l) (fit r l .is), fit r l .within)
 
   -- the least and the context of A are together the Total of its chosen rule
-  pub sizes-fit : (A : ℕ) → A < g .N → entry ws A 0 + entry ws A 2 ≤ 4096
+  pub sizes-fit : (A : ℕ) → A < g .N → entry ws A 0 + entry ws A 2 ≤ limit
   sizes-fit A lt =
       let k = table .chosen A lt in
       let f = fit (entry ws A 1) (rule-below (g .rules) _ _ (k .attains .rule .stands)) in
-      let t : Total plain g (entry ws A 1) (entry ws A 2 + k .figure) =
+      let t : Total measure g (entry ws A 1) (entry ws A 2 + k .figure) =
       record { A = A; outer = entry ws A 2; context = table .contexts A lt; size = k .figure; rule = k .attains; is = refl } in
       omega (arith, total-unique t (f .is), least-unique (table .leasts A lt) (k .least), f .within)
 

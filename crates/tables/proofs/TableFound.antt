@@ -10,7 +10,7 @@ use mathlib.Core.Logic.{_⊎_, inl, inr}
 use mathlib.Core.List.{List}
 use lib.ListN.{getD}
 use Rattle.grammar.specs.Words.{Grammar, RuleAt, R, InBounds}
-use Rattle.grammar.specs.Measure.{plain}
+use Rattle.grammar.specs.Terms.{measure}
 use Rattle.grammar.specs.Refusals.{Lowest}
 use Rattle.grammar.proofs.LayoutExact.{rule-short}
 use Rattle.grammar.proofs.RuleNumbers.{rule-number}
@@ -45,7 +45,7 @@ none-of (none-has none) never = refl
 none-of (first {k = x} l p before) never = absurd (never x p)
 
 module _ (g : Grammar) (ok : InBounds g) (vs us sizes totals chosen leads : List ℕ)
-    (leasts : Leasts plain g (figure vs)) (contexts : Contexts plain g (figure vs) (figure us)) (of-sizes : SizesOf g vs sizes)
+    (leasts : Leasts measure g (figure vs)) (contexts : Contexts measure g (figure vs) (figure us)) (of-sizes : SizesOf g vs sizes)
     (of-totals : (k A : ℕ) (w : List ℕ) → RuleAt g k A w → getD totals k 0 ≡ figure us A + getD sizes k 0)
     (of-chosen : ChosenOf g vs sizes chosen (R g)) (of-leads : PlacesOf g vs us totals leads (32 * R g)) where
   abbrev v : ℕ → ℕ
@@ -54,7 +54,7 @@ module _ (g : Grammar) (ok : InBounds g) (vs us sizes totals chosen leads : List
   abbrev u : ℕ → ℕ
   u A = figure us A
 
-  total-of : {k B : ℕ} {w : List ℕ} → RuleAt g k B w → getD totals k 0 ≡ u B + (1 + wordSize plain g v w)
+  total-of : {k B : ℕ} {w : List ℕ} → RuleAt g k B w → getD totals k 0 ≡ u B + (1 + wordSize measure g v w)
   total-of {k} {B} {w} r = of-totals k B w r ∙ ap (λ (x : ℕ). u B + x) (of-sizes k B w r)
 
   -- THE CHOSEN RULES
@@ -117,7 +117,7 @@ module _ (g : Grammar) (ok : InBounds g) (vs us sizes totals chosen leads : List
     where
       never : (q : ℕ) → ¬ PlaceFits g vs us totals (g .start) q
       never q f =
-          let zero = context-certificate plain g v leasts u lt .1 contexts .at-start in
+          let zero = context-certificate measure g v leasts u lt .1 contexts .at-start in
           let apart = size-apart g v (f .w) (f .i) (g .start) (f .holds) lt in
           let t = total-of (f .rule) in
           let same = f .same in

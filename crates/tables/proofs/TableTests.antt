@@ -5,6 +5,7 @@ use Prim.Native.Nat.{ℕ}
 use mathlib.Core.Logic.{_↔_}
 use mathlib.Core.List.{List}
 use Rattle.grammar.specs.Words.{Grammar, InBounds}
+use Rattle.grammar.specs.Terms.{measure}
 use Rattle.grammar.proofs.FigureCertificate.{figure-certificate}
 use Rattle.tables.specs.Table.{IsTable}
 use Rattle.tables.specs.TableCertificates.{figuresOf, Passes}
@@ -12,7 +13,7 @@ use Rattle.tables.specs.TableCertificates.{figuresOf, Passes}
 module _ (g : Grammar) (ok : InBounds g) (ws : List ℕ) where
   to : Passes g ws → IsTable g ws
   to p =
-      let f = figure-certificate g (figuresOf g ws) ok .0 (p .figures) in
+      let f = figure-certificate measure g (figuresOf g ws) ok .0 (p .figures) in
       record {
         long = p .long;
         leasts = f .leasts;
@@ -27,7 +28,7 @@ module _ (g : Grammar) (ok : InBounds g) (ws : List ℕ) where
   from : IsTable g ws → Passes g ws
   from t = record {
     long = t .long;
-    figures = figure-certificate g (figuresOf g ws) ok .1 (record {
+    figures = figure-certificate measure g (figuresOf g ws) ok .1 (record {
       leasts = t .leasts;
       chosens = t .chosen;
       contexts = t .contexts;

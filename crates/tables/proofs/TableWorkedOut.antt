@@ -9,7 +9,7 @@ use native.Mathlib.Omega.{arith}
 use mathlib.Core.Path.{_≡_}
 use mathlib.Core.List.{List}
 use Rattle.grammar.specs.Words.{Grammar, InBounds}
-use Rattle.grammar.specs.Measure.{plain}
+use Rattle.grammar.specs.Terms.{measure}
 use Rattle.grammar.specs.Refusals.{Lowest}
 use Rattle.grammar.proofs.Dead.{open-reached}
 use Rattle.grammar.specs.Certificates.{Leasts, Contexts, Figures, AreFigures, FigureCertificate}
@@ -23,9 +23,9 @@ use Rattle.tables.proofs.TableExists.{figures-exist}
 
 module _ (g : Grammar) (v : ℕ → ℕ) where
   module _ (u : ℕ → ℕ) where
-    module _ (ok : InBounds g) (leasts : Leasts plain g v) (contexts : Contexts plain g v u) where
+    module _ (ok : InBounds g) (leasts : Leasts measure g v) (contexts : Contexts measure g v u) where
       -- v and u with choices and totals
-      abbrev with-choices : (ℕ → ℕ) → (ℕ → ℕ) → (ℕ → ℕ) → (ℕ → ℕ) → Figures
+      abbrev with-choices : (ℕ → ℕ) → (ℕ → ℕ) → (ℕ → ℕ) → (ℕ → ℕ) → Figures measure
       with-choices chosen rule place total =
           record { least = v; chosen = chosen; context = u; rule = rule; place = place; total = total }
 
@@ -33,9 +33,9 @@ module _ (g : Grammar) (v : ℕ → ℕ) where
       pub worked-out : {ws : List ℕ} → WorkedOut g v u ws → IsTable g ws
       worked-out {ws} z =
           let F = with-choices (λ A. entry ws A 1) (λ A. entry ws A 3) (λ A. entry ws A 4) (totalEntry g ws) in
-          let below = least-certificate plain g v .1 leasts in
-          let around = context-certificate plain g v leasts u (ok .start-below) .1 contexts in
-          let cert : FigureCertificate g F = record {
+          let below = least-certificate measure g v .1 leasts in
+          let around = context-certificate measure g v leasts u (ok .start-below) .1 contexts in
+          let cert : FigureCertificate measure g F = record {
             least-below = below .below;
             chosen-attains = λ A lt. z .chosen A lt .such;
             chosen-lowest = λ k A w r e. z .chosen A (r .left) .lowest k (w, r, e);
@@ -48,7 +48,7 @@ module _ (g : Grammar) (v : ℕ → ℕ) where
                 z .choices A lt d .first k i (B, w, r, h, omega (arith, e, size-apart g v w i A h lt));
             totals = z .totals;
           } in
-          let f = figure-certificate g F ok .0 cert in
+          let f = figure-certificate measure g F ok .0 cert in
           record {
             long = z .long;
             leasts = λ A lt. rw (z .leasts A lt) (leasts A lt);
@@ -61,13 +61,13 @@ module _ (g : Grammar) (v : ℕ → ℕ) where
           }
 
       -- THE FIRST OF EACH EXISTS: the grammar has figures, and with v and u for its leasts and contexts they pass the same tests.
-      some-choices : (F : Figures) × FigureCertificate g (with-choices (F .chosen) (F .rule) (F .place) (F .total))
+      some-choices : (F : Figures measure) × FigureCertificate measure g (with-choices (F .chosen) (F .rule) (F .place) (F .total))
       some-choices =
           let (F, f, rule, place) = figures-exist g ok (λ A lt. leasts A lt .tree) (λ A lt. open-reached (contexts A lt .tree)) in
           let G = with-choices (F .chosen) (F .rule) (F .place) (F .total) in
-          let are : AreFigures g G =
+          let are : AreFigures measure g G =
           record { leasts = leasts; chosens = f .chosens; contexts = contexts; choices = f .choices; totals = f .totals } in
-          (F, figure-certificate g G ok .1 are)
+          (F, figure-certificate measure g G ok .1 are)
 
       pub first-rule : (A : ℕ) → A < g .N → (k : ℕ) × Lowest (Attaining g v A) k
       first-rule A lt =

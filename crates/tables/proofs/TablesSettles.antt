@@ -12,6 +12,7 @@ use Rattle.answers.specs.Refusals.{Refusal, broken-layout, too-short}
 use Rattle.answers.specs.Buffers.{over}
 use Rattle.grammar.specs.Words.{Grammar, InBounds}
 use Rattle.grammar.specs.Refusals.{Accepted}
+use Rattle.grammar.specs.Terms.{limit}
 use Rattle.tables.specs.Table.{IsTable, tableLength}
 use Rattle.tables.specs.Promise.{Tables, refused, row-4, row-5, row-6, row-7, row-3, done}
 use Rattle.tables.specs.declared.TableAnswer.{TableAnswer}
@@ -74,7 +75,7 @@ module _ (words before : List ℕ) where
   row (grammar e (go t (go u (go f (stop (same, l)))))) = rw same (row-3 e t u f (rw same at l))
   row (grammar e (go t (go u (go f (go l (written table)))))) = done e t u f l table
 
-  three-met : (g : Grammar) → InBounds g → Accepted g → (o : Out) × FromThree g o
+  three-met : (g : Grammar) → InBounds g → Accepted limit g → (o : Out) × FromThree g o
   three-met g ok a = room? (decLt (length before) (tableLength g))
     where
       room? : Dec (length before < tableLength g) → (o : Out) × FromThree g o

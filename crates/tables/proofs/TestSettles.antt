@@ -11,6 +11,7 @@ use Rattle.answers.specs.Refusals.{broken-layout, no-tree, unreached, oversize}
 use Rattle.grammar.specs.Words.{Grammar, R, layout, faults, Are, InBounds}
 use Rattle.layout.specs.Judge.{placesOf}
 use Rattle.grammar.specs.Refusals.{Lowest, NoTree, AllTrees, Unreached, AllReached, Oversize, Accepted}
+use Rattle.grammar.specs.Terms.{limit}
 use Rattle.tables.specs.Table.{IsTable, HasTable, tableLength}
 use Rattle.tables.specs.Promise.{Tested, TestPromise, placesWith, refusedTest, test-4, test-5, test-6, test-7, its, not-its}
 use Rattle.tables.specs.declared.TableTest.{TableTest}
@@ -24,7 +25,7 @@ use Rattle.tables.proofs.TableIsOne.{table-unique}
 use Rattle.tables.proofs.TableExists.{table-exists}
 
 -- whether it is its own
-pub tabled? : (table : List ℕ) (g : Grammar) → InBounds g → Accepted g → Dec (HasTable g table)
+pub tabled? : (table : List ℕ) (g : Grammar) → InBounds g → Accepted limit g → Dec (HasTable g table)
 tabled? table g ok a =
     let (ws, is) = table-exists g ok (a .trees) (a .reached) in
     same ws is (List-discrete ℕ-discrete ws (take (tableLength g) table))
@@ -99,13 +100,13 @@ module _ (words table : List ℕ) where
   only-6 (test-6 {g = g} e t low) = (g, e, (t, low))
 
   only-7 : {r : ℕ} → Tested words table (refusedTest (oversize r)) →
-      Are words (λ g. AllTrees g × AllReached g × Lowest (Oversize g) r)
+      Are words (λ g. AllTrees g × AllReached g × Lowest (Oversize limit g) r)
   only-7 (test-7 {g = g} e t u low) = (g, e, (t, u, low))
 
   only-its : {n : ℕ} → Tested words table (Its n) → Are words (λ g. (n ≡ R g) × Own table g)
   only-its (its {g = g} e a h) = (g, e, (refl, (a, h)))
 
-  only-not-its : Tested words table NotIts → Are words (λ g. Accepted g × ¬ HasTable g table)
+  only-not-its : Tested words table NotIts → Are words (λ g. Accepted limit g × ¬ HasTable g table)
   only-not-its (not-its {g = g} e a n) = (g, e, (a, n))
 
   -- beside the answer that it is its own stand the places of the rules
@@ -123,11 +124,11 @@ module _ (words table : List ℕ) where
     test-unreached A = (λ e. only-6 (rw e at t), λ (g, e, (u, low)). answer-settles t (test-6 e u low))
 
     pub test-oversize : (r : ℕ) → (a ≡ refusedTest (oversize r)) ↔
-        Are words (λ g. AllTrees g × AllReached g × Lowest (Oversize g) r)
+        Are words (λ g. AllTrees g × AllReached g × Lowest (Oversize limit g) r)
     test-oversize r = (λ e. only-7 (rw e at t), λ (g, e, (u, v, low)). answer-settles t (test-7 e u v low))
 
     pub test-its : (n : ℕ) → (a ≡ Its n) ↔ Are words (λ g. (n ≡ R g) × Own table g)
     test-its n = (λ e. only-its (rw e at t), λ (g, e, (same, (a, h))). rw same (answer-settles t (its e a h)))
 
-    pub test-not-its : (a ≡ NotIts) ↔ Are words (λ g. Accepted g × ¬ HasTable g table)
+    pub test-not-its : (a ≡ NotIts) ↔ Are words (λ g. Accepted limit g × ¬ HasTable g table)
     test-not-its = (λ e. only-not-its (rw e at t), λ (g, e, (a, n)). answer-settles t (not-its e a n))

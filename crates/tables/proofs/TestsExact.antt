@@ -11,7 +11,7 @@ use mathlib.Core.Logic.{_⊎_, _↔_}
 use mathlib.Core.List.{List, [], _∷_}
 use lib.ListN.{length, length-take}
 use Rattle.grammar.specs.Words.{Grammar, RuleAt, R, InBounds}
-use Rattle.grammar.specs.Measure.{plain}
+use Rattle.grammar.specs.Terms.{measure, limit}
 use Rattle.grammar.specs.Refusals.{Accepted}
 use Rattle.grammar.proofs.ConstructorsDiffer.{none-not-some}
 use Rattle.grammar.proofs.LayoutExact.{rule-at, rule-below}
@@ -27,19 +27,19 @@ use Rattle.tables.proofs.TablePlaces.{entry-front, total-front}
 
 -- the sizes of symbols are the figure of a nonterminal among them and the sizes beside it
 module _ (g : Grammar) (v : ℕ → ℕ) where
-  size-parted : (w : List ℕ) (i A : ℕ) → Holds w i A → A < g .N → wordSize plain g v w ≡ v A + othersSize plain g v w i
+  size-parted : (w : List ℕ) (i A : ℕ) → Holds w i A → A < g .N → wordSize measure g v w ≡ v A + othersSize measure g v w i
   unfolding wordSize othersSize
   size-parted [] i A h lt = absurd (none-not-some h)
   size-parted (s ∷ w) zero A h lt =
       let same : s ≡ A = cc in
-      rw same (omega (arith, symbol-nonterminal plain g v A lt))
+      rw same (omega (arith, symbol-nonterminal measure g v A lt))
   size-parted (s ∷ w) (suc i) A h lt = omega (arith, size-parted w i A h lt)
 
 module _ (g : Grammar) (ok : InBounds g) (table : List ℕ) where
   -- the table is the grammar's, in the figures that all of its words give
   record Own : Type 0 where
     long : tableLength g ≤ length table
-    figures : AreFigures g (figuresOf g table)
+    figures : AreFigures measure g (figuresOf g table)
     start-rule : entry table (g .start) 3 ≡ 65535
     start-place : entry table (g .start) 4 ≡ 65535
 
@@ -71,7 +71,7 @@ module _ (g : Grammar) (ok : InBounds g) (table : List ℕ) where
   }
 
   -- a grammar that has a table is accepted where no total is above 4,096
-  own-accepted : Own → ((r : ℕ) → r < R g → totalEntry g table r ≤ 4096) → Accepted g
+  own-accepted : Own → ((r : ℕ) → r < R g → totalEntry g table r ≤ limit) → Accepted limit g
   own-accepted o fit = record {
     trees = λ A lt. o .figures .leasts A lt .tree;
     reached = λ A lt. open-reached (o .figures .contexts A lt .tree);
@@ -79,14 +79,14 @@ module _ (g : Grammar) (ok : InBounds g) (table : List ℕ) where
   }
 
   parted : (w : List ℕ) (i A : ℕ) → Holds w i A → A < g .N →
-      wordSize plain g (leastIn table) w ≡ leastIn table A + othersSize plain g (leastIn table) w i
+      wordSize measure g (leastIn table) w ≡ leastIn table A + othersSize measure g (leastIn table) w i
   parted = size-parted g (leastIn table)
 
   module _ (t : TablePasses g table) where
     start : StartPasses table (g .start)
     start = t .choices (g .start) (ok .start-below) .at-start refl
 
-    certificate : FigureCertificate g (figuresOf g table)
+    certificate : FigureCertificate measure g (figuresOf g table)
     certificate = record {
       least-below = λ k A w r. t .rules k A w r .left .below;
       chosen-attains = λ A lt.
@@ -111,16 +111,16 @@ module _ (g : Grammar) (ok : InBounds g) (table : List ℕ) where
     passed-own : Own
     passed-own = record {
       long = t .long;
-      figures = figure-certificate g (figuresOf g table) ok .0 certificate;
+      figures = figure-certificate measure g (figuresOf g table) ok .0 certificate;
       start-rule = start .rule;
       start-place = start .place;
     }
 
-  module _ (accepted : Accepted g) (o : Own) where
-    cert : FigureCertificate g (figuresOf g table)
-    cert = figure-certificate g (figuresOf g table) ok .1 (o .figures)
+  module _ (accepted : Accepted limit g) (o : Own) where
+    cert : FigureCertificate measure g (figuresOf g table)
+    cert = figure-certificate measure g (figuresOf g table) ok .1 (o .figures)
 
-    total-fits : (r : ℕ) → r < R g → totalEntry g table r ≤ 4096
+    total-fits : (r : ℕ) → r < R g → totalEntry g table r ≤ limit
     total-fits r l = omega (arith, total-unique (o .figures .totals r l) (accepted .fit r l .is), accepted .fit r l .within)
 
     place-passes : (k B : ℕ) (w : List ℕ) (i A : ℕ) → RuleAt g k B w → Holds w i A → A < g .N →
@@ -171,14 +171,14 @@ module _ (g : Grammar) (ok : InBounds g) (table : List ℕ) where
     }
 
   -- EXACT, both ways
-  pub tests-exact : TablePasses g table ↔ (Accepted g × HasTable g table)
+  pub tests-exact : TablePasses g table ↔ (Accepted limit g × HasTable g table)
   tests-exact = (to, from)
     where
-      to : TablePasses g table → Accepted g × HasTable g table
+      to : TablePasses g table → Accepted limit g × HasTable g table
       to t =
-          let fits : (r : ℕ) → r < R g → totalEntry g table r ≤ 4096 = λ r l.
+          let fits : (r : ℕ) → r < R g → totalEntry g table r ≤ limit = λ r l.
           let (A, w, at) = rule-at ok r l in t .rules r A w at .fits in
           (own-accepted (passed-own t) fits, own-has (passed-own t))
 
-      from : Accepted g × HasTable g table → TablePasses g table
+      from : Accepted limit g × HasTable g table → TablePasses g table
       from h = own-passed (h .0) (has-own (h .1))

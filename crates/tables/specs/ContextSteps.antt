@@ -6,7 +6,7 @@ use mathlib.Core.Logic.{_⊎_}
 use mathlib.Core.List.{List, [], _∷_}
 use lib.ListN.{length, set}
 use Rattle.grammar.specs.Words.{Grammar, RuleAt}
-use Rattle.grammar.specs.Measure.{plain}
+use Rattle.grammar.specs.Terms.{measure}
 use Rattle.grammar.specs.Certificates.{Holds, othersSize}
 use Rattle.tables.specs.Figures.{figure, Has, capped, Lowered, LeastsDone, SizesOf, ContextsSound, ContextQuiet}
 use Rattle.layout.specs.View.{View}
@@ -34,7 +34,7 @@ pub data ContextStep (n size : ℕ) (vs : List ℕ) (k B : ℕ) (w us seen : Lis
 -- A rule B ⟶ w that was tried with this context of B lowers no context until that of B falls; and B has one.
 pub record Tried (g : Grammar) (vs us : List ℕ) (B : ℕ) (w : List ℕ) (context : ℕ) : Type 0 where
   pub has : figure us B < 65535
-  pub low : (i A : ℕ) → Holds w i A → A < g .N → figure us A ≤ capped (context + (1 + othersSize plain g (figure vs) w i))
+  pub low : (i A : ℕ) → Holds w i A → A < g .N → figure us A ≤ capped (context + (1 + othersSize measure g (figure vs) w i))
 
 -- what is known of the contexts, and of what is seen
 pub record Stands (g : Grammar) (vs us seen : List ℕ) : Type 0 where

@@ -10,9 +10,9 @@ use mathlib.Core.List.{List, [], _∷_}
 use lib.ListN.{length, getD, set, replicate}
 use Rattle.grammar.specs.Words.{Grammar, RuleAt, R}
 use Rattle.grammar.specs.Tree.{_∈_}
-use Rattle.grammar.specs.Measure.{plain}
+use Rattle.grammar.specs.Terms.{measure}
 use Rattle.grammar.specs.Certificates.{wordSize, Holds, othersSize}
-use Rattle.grammar.specs.Caps.{plainCap, OfTree, OfOpen}
+use Rattle.grammar.specs.Caps.{OfTree, OfOpen, ceiling, measureCap}
 use Rattle.tables.specs.declared.figures.Found.{Found}
 use Rattle.tables.specs.declared.figures.Found.the-variants.{At, Nothing}
 
@@ -23,7 +23,7 @@ abbrev pub Has : List ℕ → ℕ → Type 0
 Has xs A = ¬ (figure xs A ≡ 65535)
 
 abbrev pub capped : ℕ → ℕ
-capped x = min x 4097
+capped x = min x ceiling
 
 -- a figure lowered to a number that is smaller, or left, as it is where the array has no place for it; how many fell
 pub data Lowered (before : List ℕ) (a to : ℕ) : List ℕ → ℕ → Type 0 where
@@ -65,12 +65,12 @@ HaveIn n xs w = (B : ℕ) → B ∈ w → B < n → Has xs B
 
 -- each figure is the cut of what some tree costs
 abbrev pub LeastsSound : Grammar → List ℕ → Type 0
-LeastsSound g xs = (A : ℕ) → A < g .N → Has xs A → OfTree plain (plainCap 4096) g A (figure xs A)
+LeastsSound g xs = (A : ℕ) → A < g .N → Has xs A → OfTree measure measureCap g A (figure xs A)
 
 -- a rule, all of whose nonterminals have figures, does not lower the figure of its left side
 abbrev pub LeastQuiet : Grammar → List ℕ → ℕ → Type 0
 LeastQuiet g xs k =
-    (A : ℕ) (w : List ℕ) → RuleAt g k A w → HaveIn (g .N) xs w → figure xs A ≤ capped (1 + wordSize plain g (figure xs) w)
+    (A : ℕ) (w : List ℕ) → RuleAt g k A w → HaveIn (g .N) xs w → figure xs A ≤ capped (1 + wordSize measure g (figure xs) w)
 
 pub record LeastsRest (g : Grammar) (xs : List ℕ) : Type 0 where
   pub sound : LeastsSound g xs
@@ -83,18 +83,18 @@ pub record LeastsDone (g : Grammar) (xs : List ℕ) : Type 0 where
 
 -- the sizes of the rules by the leasts vs
 abbrev pub SizesOf : Grammar → List ℕ → List ℕ → Type 0
-SizesOf g vs sizes = (k A : ℕ) (w : List ℕ) → RuleAt g k A w → getD sizes k 0 ≡ 1 + wordSize plain g (figure vs) w
+SizesOf g vs sizes = (k A : ℕ) (w : List ℕ) → RuleAt g k A w → getD sizes k 0 ≡ 1 + wordSize measure g (figure vs) w
 
 -- CONTEXTS, over leasts vs: the start's is 0, and each figure is the cut of what some open tree costs
 pub record ContextsSound (g : Grammar) (us : List ℕ) : Type 0 where
   pub start : figure us (g .start) ≡ 0
-  pub of-open : (A : ℕ) → A < g .N → Has us A → OfOpen plain (plainCap 4096) g A (figure us A)
+  pub of-open : (A : ℕ) → A < g .N → Has us A → OfOpen measure measureCap g A (figure us A)
 
 -- a rule of a nonterminal that has a figure does not lower the figure of what it holds at any place
 abbrev pub ContextQuiet : Grammar → List ℕ → List ℕ → ℕ → Type 0
 ContextQuiet g vs us k =
     (B : ℕ) (w : List ℕ) → RuleAt g k B w → Has us B → (i A : ℕ) → Holds w i A → A < g .N →
-    figure us A ≤ capped (figure us B + (1 + othersSize plain g (figure vs) w i))
+    figure us A ≤ capped (figure us B + (1 + othersSize measure g (figure vs) w i))
 
 pub record ContextsRest (g : Grammar) (vs us : List ℕ) : Type 0 where
   pub sound : ContextsSound g us

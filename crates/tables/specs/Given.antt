@@ -8,6 +8,7 @@ use Rattle.answers.specs.Refusals.{Refusal, not-version-one, bad-length, too-ma
 use Rattle.answers.specs.Refusals.{unreached, oversize, not-its-table, few-marks, derivation-short, no-derivation, long-list}
 use Rattle.grammar.specs.Words.{Grammar, layout, faults, Are}
 use Rattle.grammar.specs.Refusals.{Lowest, NoTree, AllTrees, Unreached, AllReached, Oversize, Accepted}
+use Rattle.grammar.specs.Terms.{limit}
 use Rattle.tables.specs.Table.{HasTable, tableLength}
 
 module _ (words before : List ℕ) where
@@ -16,8 +17,8 @@ module _ (words before : List ℕ) where
   Given (broken-layout p) = layout words ≡ faults p
   Given (no-tree A) = Are words (λ g. Lowest (NoTree g) A)
   Given (unreached A) = Are words (λ g. AllTrees g × Lowest (Unreached g) A)
-  Given (oversize r) = Are words (λ g. AllTrees g × AllReached g × Lowest (Oversize g) r)
-  Given (too-short n) = Are words (λ g. Accepted g × (n ≡ tableLength g) × (length before < n))
+  Given (oversize r) = Are words (λ g. AllTrees g × AllReached g × Lowest (Oversize limit g) r)
+  Given (too-short n) = Are words (λ g. Accepted limit g × (n ≡ tableLength g) × (length before < n))
   Given not-version-one = ⊥
   Given bad-length = ⊥
   Given too-many-words = ⊥
@@ -29,7 +30,7 @@ module _ (words before : List ℕ) where
 
   -- and of Done
   abbrev pub GivenDone : ℕ → Type 0
-  GivenDone n = Are words (λ g. Accepted g × (n ≡ tableLength g) × (n ≤ length before))
+  GivenDone n = Are words (λ g. Accepted limit g × (n ≡ tableLength g) × (n ≤ length before))
 
 -- what Done says of the buffer: the grammar's table in front, and what lay behind it
 pub record Written (before after : List ℕ) (g : Grammar) : Type 0 where
@@ -38,4 +39,4 @@ pub record Written (before after : List ℕ) (g : Grammar) : Type 0 where
 
 -- accepted, and the table is its own
 abbrev pub Own : List ℕ → Grammar → Type 0
-Own table g = Accepted g × HasTable g table
+Own table g = Accepted limit g × HasTable g table

@@ -6,7 +6,7 @@ use mathlib.Core.Bool.{Bool, true, false}
 use mathlib.Core.List.{List}
 use lib.ListN.{length, getD, set}
 use Rattle.grammar.specs.Words.{Grammar, RuleAt}
-use Rattle.grammar.specs.Measure.{plain}
+use Rattle.grammar.specs.Terms.{measure}
 use Rattle.grammar.specs.Certificates.{wordSize}
 use Rattle.tables.specs.Figures.{figure, capped, HaveIn, Lowered, LeastsSound, LeastQuiet, LeastsRest, LeastsDone, SizesOf}
 use Rattle.tables.specs.declared.leasts.Size.{Size}
@@ -15,7 +15,7 @@ use Rattle.tables.specs.declared.leasts.Size.the-variants.{Of, NotYet}
 -- x is what a rule with the symbols w comes to by the figures vs, in any grammar of n nonterminals; it fits 32 bits
 pub record SizeOf (n : ℕ) (vs w : List ℕ) (x : ℕ) : Type 0 where
   pub have : HaveIn n vs w
-  pub is : (g : Grammar) → n ≡ g .N → x ≡ 1 + wordSize plain g (figure vs) w
+  pub is : (g : Grammar) → n ≡ g .N → x ≡ 1 + wordSize measure g (figure vs) w
   pub fits : x < 4294967296
 
 abbrev pub Sized : ℕ → List ℕ → List ℕ → Size → Type 0
@@ -45,7 +45,7 @@ pub data SizeStep (A : ℕ) (w : List ℕ) (n : ℕ) (vs : List ℕ) (r : ℕ) (
 
 -- x is the size of rule r, if it has one
 abbrev pub SizeHere : Grammar → List ℕ → ℕ → ℕ → Type 0
-SizeHere g vs r x = (A : ℕ) (w : List ℕ) → RuleAt g r A w → HaveIn (g .N) vs w → x ≡ 1 + wordSize plain g (figure vs) w
+SizeHere g vs r x = (A : ℕ) (w : List ℕ) → RuleAt g r A w → HaveIn (g .N) vs w → x ≡ 1 + wordSize measure g (figure vs) w
 
 -- whether every rule is quiet; if so each that has a size has it among the sizes
 abbrev pub Settled : Grammar → List ℕ → List ℕ → ℕ → Bool → Type 0

@@ -10,6 +10,7 @@ use Rattle.answers.specs.Buffers.{over}
 use Rattle.grammar.specs.Words.{Grammar, R, layout, reads, faults}
 use Rattle.layout.specs.Judge.{noPlaces, placesOf}
 use Rattle.grammar.specs.Refusals.{Lowest, NoTree, AllTrees, Unreached, AllReached, Oversize, AllFit, Accepted}
+use Rattle.grammar.specs.Terms.{limit}
 use Rattle.tables.specs.Table.{IsTable, HasTable, tableLength}
 use Rattle.tables.specs.declared.TableAnswer.{TableAnswer}
 use Rattle.tables.specs.declared.TableAnswer.the-variants.{Done, Refused}
@@ -27,11 +28,11 @@ pub data Tables (words before : List ℕ) : TableAnswer → List ℕ → Type 0 
       Tables words before (refused (no-tree A)) before
   row-6 : {g : Grammar} {A : ℕ} → layout words ≡ reads g → AllTrees g → Lowest (Unreached g) A →
       Tables words before (refused (unreached A)) before
-  row-7 : {g : Grammar} {r : ℕ} → layout words ≡ reads g → AllTrees g → AllReached g → Lowest (Oversize g) r →
+  row-7 : {g : Grammar} {r : ℕ} → layout words ≡ reads g → AllTrees g → AllReached g → Lowest (Oversize limit g) r →
       Tables words before (refused (oversize r)) before
-  row-3 : {g : Grammar} → layout words ≡ reads g → AllTrees g → AllReached g → AllFit g → length before < tableLength g →
+  row-3 : {g : Grammar} → layout words ≡ reads g → AllTrees g → AllReached g → AllFit limit g → length before < tableLength g →
       Tables words before (refused (too-short (tableLength g))) before
-  done : {g : Grammar} {table : List ℕ} → layout words ≡ reads g → AllTrees g → AllReached g → AllFit g →
+  done : {g : Grammar} {table : List ℕ} → layout words ≡ reads g → AllTrees g → AllReached g → AllFit limit g →
       tableLength g ≤ length before → IsTable g table →
       Tables words before (Done (tableLength g)) (over table before)
 
@@ -47,11 +48,11 @@ pub data Tested (words table : List ℕ) : TableTest → Type 0 where
       Tested words table (refusedTest (no-tree A))
   test-6 : {g : Grammar} {A : ℕ} → layout words ≡ reads g → AllTrees g → Lowest (Unreached g) A →
       Tested words table (refusedTest (unreached A))
-  test-7 : {g : Grammar} {r : ℕ} → layout words ≡ reads g → AllTrees g → AllReached g → Lowest (Oversize g) r →
+  test-7 : {g : Grammar} {r : ℕ} → layout words ≡ reads g → AllTrees g → AllReached g → Lowest (Oversize limit g) r →
       Tested words table (refusedTest (oversize r))
-  its : {g : Grammar} → layout words ≡ reads g → Accepted g → HasTable g table →
+  its : {g : Grammar} → layout words ≡ reads g → Accepted limit g → HasTable g table →
       Tested words table (test.Its (R g))
-  not-its : {g : Grammar} → layout words ≡ reads g → Accepted g → ¬ HasTable g table →
+  not-its : {g : Grammar} → layout words ≡ reads g → Accepted limit g → ¬ HasTable g table →
       Tested words table test.NotIts
 
 -- where the rules stand, with the answer that the table is the grammar's own; with any other 0 throughout

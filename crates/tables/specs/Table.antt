@@ -6,7 +6,7 @@ use mathlib.Core.Path.{_≡_}
 use mathlib.Core.List.{List}
 use lib.ListN.{length, getD, take}
 use Rattle.grammar.specs.Words.{Grammar, R}
-use Rattle.grammar.specs.Measure.{plain}
+use Rattle.grammar.specs.Terms.{measure}
 use Rattle.grammar.specs.Least.{Least, Chosen, Context, ContextChoice, Total}
 
 -- 5N + R
@@ -22,13 +22,13 @@ totalEntry g ws r = getD ws (5 * g .N + r) 0
 
 pub record IsTable (g : Grammar) (ws : List ℕ) : Type 0 where
   pub long : length ws ≡ tableLength g
-  pub leasts : (A : ℕ) → A < g .N → Least plain g A (entry ws A 0)
-  pub chosen : (A : ℕ) → A < g .N → Chosen plain g A (entry ws A 1)
-  pub contexts : (A : ℕ) → A < g .N → Context plain g A (entry ws A 2)
-  pub choices : (A : ℕ) → A < g .N → ¬ (A ≡ g .start) → ContextChoice plain g A (entry ws A 3) (entry ws A 4)
+  pub leasts : (A : ℕ) → A < g .N → Least measure g A (entry ws A 0)
+  pub chosen : (A : ℕ) → A < g .N → Chosen measure g A (entry ws A 1)
+  pub contexts : (A : ℕ) → A < g .N → Context measure g A (entry ws A 2)
+  pub choices : (A : ℕ) → A < g .N → ¬ (A ≡ g .start) → ContextChoice measure g A (entry ws A 3) (entry ws A 4)
   pub start-rule : entry ws (g .start) 3 ≡ 65535
   pub start-place : entry ws (g .start) 4 ≡ 65535
-  pub totals : (r : ℕ) → r < R g → Total plain g r (totalEntry g ws r)
+  pub totals : (r : ℕ) → r < R g → Total measure g r (totalEntry g ws r)
 
 -- the first 5N + R of these words are there and are the grammar's table; what follows them is not looked at
 abbrev pub HasTable : Grammar → List ℕ → Type 0

@@ -10,14 +10,14 @@ use mathlib.Core.List.{List}
 use lib.Dec.{eqb}
 use lib.ListN.{length}
 use Rattle.grammar.specs.Words.{Grammar, RuleAt}
-use Rattle.grammar.specs.Measure.{plain}
+use Rattle.grammar.specs.Terms.{measure}
 use Rattle.grammar.specs.Refusals.{Lowest}
 use Rattle.grammar.specs.Certificates.{Holds, wordSize, Figures, FigureCertificate}
 use Rattle.grammar.specs.FigureTests.{figures?}
 use Rattle.tables.specs.Table.{tableLength, entry, totalEntry}
 
 -- the figures that words give to a grammar, whether or not they are its own
-abbrev pub figuresOf : Grammar → List ℕ → Figures
+abbrev pub figuresOf : Grammar → List ℕ → Figures measure
 figuresOf g ws = record {
   least = λ A. entry ws A 0;
   chosen = λ A. entry ws A 1;
@@ -30,7 +30,7 @@ figuresOf g ws = record {
 -- words are the table where they pass these
 pub record Passes (g : Grammar) (ws : List ℕ) : Type 0 where
   pub long : length ws ≡ tableLength g
-  pub figures : FigureCertificate g (figuresOf g ws)
+  pub figures : FigureCertificate measure g (figuresOf g ws)
   pub start-rule : entry ws (g .start) 3 ≡ 65535
   pub start-place : entry ws (g .start) 4 ≡ 65535
 
@@ -50,13 +50,13 @@ pub record First (P : ℕ → ℕ → Type 0) (k i : ℕ) : Type 0 where
 module _ (g : Grammar) (v : ℕ → ℕ) where
   -- rule k is one of A and comes to v(A)
   abbrev pub Attaining : ℕ → ℕ → Type 0
-  Attaining A k = (w : List ℕ) × RuleAt g k A w × (v A ≡ 1 + wordSize plain g v w)
+  Attaining A k = (w : List ℕ) × RuleAt g k A w × (v A ≡ 1 + wordSize measure g v w)
 
   module _ (u : ℕ → ℕ) where
     -- rule k, of B, holds A at place i and comes to u(A) there
     abbrev pub Leading : ℕ → ℕ → ℕ → Type 0
     Leading A k i =
-        (B : ℕ) × (w : List ℕ) × RuleAt g k B w × Holds w i A × (v A + u A ≡ u B + (1 + wordSize plain g v w))
+        (B : ℕ) × (w : List ℕ) × RuleAt g k B w × Holds w i A × (v A + u A ≡ u B + (1 + wordSize measure g v w))
 
     pub record WorkedOut (ws : List ℕ) : Type 0 where
       pub long : length ws ≡ tableLength g
@@ -66,4 +66,4 @@ module _ (g : Grammar) (v : ℕ → ℕ) where
       pub choices : (A : ℕ) → A < g .N → ¬ (A ≡ g .start) → First (Leading A) (entry ws A 3) (entry ws A 4)
       pub start-rule : entry ws (g .start) 3 ≡ 65535
       pub start-place : entry ws (g .start) 4 ≡ 65535
-      pub totals : (r A : ℕ) (w : List ℕ) → RuleAt g r A w → totalEntry g ws r ≡ u A + (1 + wordSize plain g v w)
+      pub totals : (r A : ℕ) (w : List ℕ) → RuleAt g r A w → totalEntry g ws r ≡ u A + (1 + wordSize measure g v w)

@@ -10,7 +10,7 @@ use mathlib.Core.Bool.{Bool, true, false}
 use mathlib.Core.List.{List}
 use lib.ListN.{length, getD}
 use Rattle.grammar.specs.Words.{Grammar, RuleAt}
-use Rattle.grammar.specs.Measure.{plain}
+use Rattle.grammar.specs.Terms.{measure, limit}
 use Rattle.layout.specs.Rules.{rightAt}
 use Rattle.grammar.specs.Certificates.{wordSize, Holds}
 use Rattle.tables.specs.Table.{tableLength, entry, totalEntry}
@@ -47,11 +47,11 @@ abbrev pub leastIn : List ℕ → ℕ → ℕ
 leastIn table A = entry table A 0
 
 abbrev pub sizeIn : Grammar → List ℕ → List ℕ → ℕ
-sizeIn g table w = 1 + wordSize plain g (leastIn table) w
+sizeIn g table w = 1 + wordSize measure g (leastIn table) w
 
 -- rule k, A ⟶ w, whose total is t
 pub record RulePasses (g : Grammar) (table : List ℕ) (k t A : ℕ) (w : List ℕ) : Type 0 where
-  pub fits : t ≤ 4096
+  pub fits : t ≤ limit
   pub places : PlacesPass table (g .N) k t w
   pub left : LeftPasses table A k (sizeIn g table w) t
 

@@ -6,6 +6,7 @@ ghost use Prim.Native.Nat.{_+_, _*_, _≤_, _<_};
 ghost use lib.ListN.{length, getD};
 ghost use Rattle.grammar.specs.Words.{Grammar};
 ghost use Rattle.grammar.specs.Refusals.{Accepted};
+ghost use Rattle.grammar.specs.Terms.{limit};
 ghost use Rattle.tables.specs.Table.{HasTable, entry};
 ghost use Rattle.layout.specs.View.{View};
 ghost use Rattle.tables.specs.Tests.{Says, Answer, PlacePasses, SizePasses, LeftPasses, RuleAnswer, RulesPass};
@@ -262,7 +263,7 @@ pub fn passes(
     requires { ⌜ (n ≤ 128) × (rules ≤ 256) ⌝ }
     requires { ⌜ ((g : Grammar) × View (now words) (now places) n rules g) ⌝ }
     ensures { λ r. ⌜ ((g : Grammar) → View (now (words .entry)) (now (places .entry)) n rules g → start ≡ g .start →
-        Says r (Accepted g × HasTable g (now (table .entry)))) ⌝ }
+        Says r (Accepted limit g × HasTable g (now (table .entry)))) ⌝ }
 {
     if table.len() < 5 * n + rules {
         return false;

@@ -7,11 +7,12 @@ use Rattle.suite.proofs.MoreLines.{true-not-false, count-few, sentence-
 use Rattle.suite.proofs.MoreLines.{Room, room-left, no-room-left, turns, turns-fall}
 use borrow.Author.Needs.{needs}
 use Rattle.suite.proofs.fill.Statement.{statement}
+use Rattle.grammar.specs.Terms.{limit}
 use Rattle.suite.proofs.fill.Tie as tie
 
 abbrev Inv-loop : tie.InvT-loop
 Inv-loop words table marks₀ text₀ sentence₀ derivation₀ so₀ marks text sentence derivation so =
-    (length marks ≡ length marks₀) × (length text ≡ length text₀) × (4096 ≡ length sentence) × (4096 ≡ length derivation) ×
+    (length marks ≡ length marks₀) × (length text ≡ length text₀) × (limit ≡ length sentence) × (limit ≡ length derivation) ×
     Room marks sentence derivation × Filling words table marks₀ marks text₀ text so₀ so
 
 abbrev μ-loop : tie.MeasureT-loop

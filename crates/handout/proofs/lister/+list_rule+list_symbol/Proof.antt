@@ -24,6 +24,7 @@ use Rattle.handout.proofs.lister.+list_rule+list_symbol.Lts-list_rule a
 use Rattle.handout.proofs.lister.+list_rule+list_symbol.Lts-list_symbol as symbol-lts
 use Rattle.handout.proofs.lister.+list_rule+list_symbol.{statement}
 use Rattle.handout.proofs.lister.+list_rule+list_symbol.Tie.{close}
+use Rattle.grammar.specs.Terms.{limit}
 
 abbrev μ-rule : Measures 5 rule-kinds.ps ℕ
 μ-rule κs a =
@@ -128,7 +129,7 @@ rule-add-end t c =
 rule-add-so : (t : ℕ) → rule-lts.Need-add-so (rule-calls t) (rule-at t) rule.Post Inv-loop μ-loop
 rule-add-so t c =
     let start = c .before .before .before .before .before .before .before .before .before .before .before .before .before in
-    omega (arith, few-both (start .args .past) {most = 4096} (omega (arith, start .pre .1 .few)))
+    omega (arith, few-both (start .args .past) {most = limit} (omega (arith, start .pre .1 .few)))
 
 rule-loop-holds : (t : ℕ) → rule-lts.Need-loop-holds (rule-calls t) (rule-at t) rule.Post Inv-loop μ-loop
 rule-loop-holds t c =
@@ -239,7 +240,7 @@ symbol-put-requires t c κs = search needs
 symbol-add-result : (t : ℕ) → symbol-lts.Need-add-result (symbol-calls t) (symbol-at t) symbol.Post
 symbol-add-result t c =
     let start = c .before .before .before .before .before .before .before .before .before .before in
-    omega (arith, few-both (start .args .past) {most = 4096} (omega (arith, start .pre .1 .few)))
+    omega (arith, few-both (start .args .past) {most = limit} (omega (arith, start .pre .1 .few)))
 
 symbol-same-length : (t : ℕ) → symbol-lts.Need-same-length (symbol-calls t) (symbol-at t) symbol.Post
 symbol-same-length t c = search needs

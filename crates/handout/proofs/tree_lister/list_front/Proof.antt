@@ -6,6 +6,7 @@ use lib.Seq.{length-take-le}
 use Rattle.handout.proofs.ListerSteps.{rule-stands, nonterminal-low, table-long, one-rule, few-both}
 use Rattle.handout.proofs.BesideSteps.{front-within, front-listable, front-written}
 use Rattle.handout.proofs.tree_lister.list_front.Statement.{statement}
+use Rattle.grammar.specs.Terms.{limit}
 use Rattle.handout.proofs.tree_lister.list_front.Tie as tie
 
 mul-rule : tie.Need-mul-rule
@@ -67,7 +68,7 @@ slice-aggregate-list-symbols c =
 add-list-symbols : tie.Need-add-list-symbols
 add-list-symbols c =
     let start = c .before .before .before .before .before .before .before .before .before .before .before .before .before in
-    omega (arith, few-both (start .args .past) {most = 4096} (omega (arith, start .pre .few)))
+    omega (arith, few-both (start .args .past) {most = limit} (omega (arith, start .pre .few)))
 
 list-symbols-requires : tie.Need-list-symbols-requires
 list-symbols-requires c κs =
