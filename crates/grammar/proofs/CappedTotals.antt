@@ -132,7 +132,7 @@ module _ (c : Cost) (κ : Cap c) (g : Grammar) (v u : ℕ → c .C) where
               (part-left κ limit t, rw e (part-right κ limit t))
 
 -- REFUSAL 7 at any limit up to document 01's, by sums that stop at the ceiling
-module _ {l : ℕ} (up-to : l ≤ limit) (g : Grammar) (v u : ℕ → ℕ) where
+module _ (l : ℕ) (up-to : l ≤ limit) (g : Grammar) (v u : ℕ → ℕ) where
   module _ (figures : CappedFigures measure measureCap g v u) {r A : ℕ} {w : List ℕ} (rule : RuleAt g r A w) where
     pub oversize-exact : (l < stoppedTotal g v u A w) ↔ Oversize l g r
     oversize-exact =

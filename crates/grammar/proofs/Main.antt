@@ -169,11 +169,11 @@ within-exact = CappedTotals.within-exact
 
 -- At document 01's measure, and any limit up to its own: sums that stop at the ceiling are above the limit exactly where refusal 7
 -- speaks of the rule, and where it speaks of none every figure is exact.
-pub oversize-exact : {l : ℕ} → l ≤ limit → (g : Grammar) (v u : ℕ → ℕ) → CappedFigures measure measureCap g v u →
+pub oversize-exact : (l : ℕ) → l ≤ limit → (g : Grammar) (v u : ℕ → ℕ) → CappedFigures measure measureCap g v u →
     {r A : ℕ} {w : List ℕ} → RuleAt g r A w → (l < stoppedTotal g v u A w) ↔ Oversize l g r
 oversize-exact = CappedTotals.oversize-exact
 
-pub all-fit-exact : {l : ℕ} → l ≤ limit → (g : Grammar) (v u : ℕ → ℕ) → CappedFigures measure measureCap g v u → AllFit l g →
+pub all-fit-exact : (l : ℕ) → l ≤ limit → (g : Grammar) (v u : ℕ → ℕ) → CappedFigures measure measureCap g v u → AllFit l g →
     Leasts measure g v × Contexts measure g v u
 all-fit-exact = CappedTotals.all-fit-exact
 
