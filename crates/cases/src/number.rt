@@ -7,6 +7,9 @@
 ghost use Prim.Native.Nat.{_≤_};
 ghost use lib.ListN.{length};
 
+// The most numbers that a part of a case spells.
+pub const MOST_SPELLED: usize = 65538;
+
 // What has been read of a form: N, its sign, and the number after it. A number alone is a form too, 1*W. The sign is 0
 // where nothing has been read.
 struct Form {
@@ -146,6 +149,27 @@ pub fn numbers(text: &[u8], out: &mut [u16]) -> usize
     write(form, out, count)
 }
 
+// Writes the numbers that a text spells, each below 256, into the front of out, as many as there is room for. The answer is how
+// many numbers there are.
+pub fn octets(text: &[u8], out: &mut [u8]) -> usize {
+    let mut words = [0; MOST_SPELLED];
+    let count = numbers(text, &mut words);
+    write_octets(&words[0..count], out);
+    count
+}
+
+fn write_octets(words: &[u16], out: &mut [u8]) {
+    let mut i = 0;
+    while i < words.len() && i < out.len() {
+        out[i] = low(words[i]);
+        i += 1;
+    }
+}
+
+fn low(word: u16) -> u8 {
+    (word % 256) as u8
+}
+
 // The first number that a text spells, and 0 where it spells none.
 pub fn first(text: &[u8]) -> usize {
     let mut one = [0; 1];
@@ -153,6 +177,8 @@ pub fn first(text: &[u8]) -> usize {
     wide(one[0])
 }
 
-fn wide(word: u16) -> usize {
+pub fn wide(word: u16) -> usize
+    ensures { λ r. ⌜ r ≤ 65535 ⌝ }
+{
     word as usize
 }

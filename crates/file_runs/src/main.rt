@@ -3,26 +3,12 @@
 mod calls;
 
 fn main() {
-    let mut text = io::large_buffer();
-    let length = io::read_full(libc::STDIN_FILENO, &mut text);
-    if length == text.len() {
-        print::text(b"input too long\n");
-        return;
-    }
-    run_lines(&text[..length]);
-}
-
-fn run_lines(text: &[u8]) {
-    let mut at = 0;
-    while at < text.len() {
-        let rest = &text[at..];
-        let line = cases::before(rest, b'\n');
-        run(cases::case_of(line));
-        let length = line.len();
-        if rest.len() <= length {
-            return;
-        }
-        at += length + 1;
+    let mut text = [0; cases::MOST_TEXT];
+    let mut rest = cases::read(&mut text);
+    while 0 < rest.len() {
+        run(cases::first_case(rest));
+        let later = cases::later_lines(rest);
+        rest = later;
     }
 }
 

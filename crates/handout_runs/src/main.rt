@@ -1,42 +1,18 @@
 // Runs `replay` and `next` on each case of standard input, and prints the case's name and what the call answered and left in
 // the lent buffers. The files `stdin` and `stdout` are written by tests/reference/handout.py, which was written from the
 // document alone and says what a line means. Assumes nothing.
-ghost use mathlib.Core.Path.{_≡_};
-ghost use lib.ListN.{length};
-
 mod buffers;
 mod nexts;
 mod nights;
 mod replays;
 
 fn main() {
-    let mut text = buffer();
-    let length = io::read_full(libc::STDIN_FILENO, &mut text);
-    if length == text.len() {
-        print::text(b"input too long\n");
-        return;
-    }
-    run_lines(&text[..length]);
-}
-
-// More octets than the cases have, which are more than those of `io::large_buffer`. The promise is the length, as there.
-fn buffer() -> [u8; 262144]
-    ensures { λ r. ⌜ 262144 ≡ length r ⌝ }
-{
-    [0; 262144]
-}
-
-fn run_lines(text: &[u8]) {
-    let mut at = 0;
-    while at < text.len() {
-        let rest = &text[at..];
-        let line = cases::before(rest, b'\n');
-        run(cases::case_of(line));
-        let length = line.len();
-        if rest.len() <= length {
-            return;
-        }
-        at += length + 1;
+    let mut text = [0; cases::MOST_TEXT];
+    let mut rest = cases::read(&mut text);
+    while 0 < rest.len() {
+        run(cases::first_case(rest));
+        let later = cases::later_lines(rest);
+        rest = later;
     }
 }
 

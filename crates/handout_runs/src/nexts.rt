@@ -3,7 +3,7 @@ use crate::buffers;
 use crate::buffers::MOST_NUMBERS;
 use crate::buffers::MOST_TABLE;
 use crate::buffers::MOST_WORDS;
-use crate::buffers::UNTOUCHED;
+use cases::UNTOUCHED;
 use handout::NextAnswer;
 
 // More marks than there are rules.
@@ -14,33 +14,18 @@ pub fn next(case: &[u8]) {
     let word_count = cases::numbers(cases::given(case), &mut words);
     let mut table = [0; MOST_TABLE];
     let table_count = cases::numbers(cases::before(cases::wanted(case), b';'), &mut table);
-    let mut numbers = [0; MOST_MARKS];
-    let mark_count = cases::numbers(buffers::from(case, b';'), &mut numbers);
     let mut marks = [0; MOST_MARKS];
-    write_octets(&numbers, &mut marks);
+    let mark_count = cases::octets(cases::from(case, b';'), &mut marks);
     let mut rooms = [0; 2];
     cases::numbers(cases::before(case, b':'), &mut rooms);
     lend(
-        buffers::front(&words, word_count),
-        buffers::front(&table, table_count),
+        cases::front(&words, word_count),
+        cases::front(&table, table_count),
         &mut marks,
         mark_count,
-        buffers::wide(rooms[0]),
-        buffers::wide(rooms[1]),
+        cases::wide(rooms[0]),
+        cases::wide(rooms[1]),
     );
-}
-
-// Writes numbers below 256 as octets.
-fn write_octets(numbers: &[u16], octets: &mut [u8]) {
-    let mut i = 0;
-    while i < numbers.len() && i < octets.len() {
-        octets[i] = low(numbers[i]);
-        i += 1;
-    }
-}
-
-fn low(number: u16) -> u8 {
-    (number % 256) as u8
 }
 
 // Lends the front of marks, and buffers of so many tokens and so many rules.
@@ -108,16 +93,14 @@ fn print_answer(answer: NextAnswer, sentence: &[u16], derivation: &[u16]) {
             print_kept(sentence, 0, derivation, 0);
         }
         NextAnswer::Refused { number, place } => {
-            buffers::print_refusal(number, place);
+            print::refused(number, place);
             print_kept(sentence, 0, derivation, 0);
         }
     }
 }
 
 fn print_kept(sentence: &[u16], tokens: usize, derivation: &[u16], rules: usize) {
-    buffers::print_kept(
-        buffers::untouched(sentence, tokens) && buffers::untouched(derivation, rules),
-    );
+    print::kept(cases::untouched(sentence, tokens) && cases::untouched(derivation, rules));
 }
 
 fn print_octets(octets: &[u8]) {

@@ -4,7 +4,7 @@ use crate::buffers;
 use crate::buffers::MOST_NUMBERS;
 use crate::buffers::MOST_TABLE;
 use crate::buffers::MOST_WORDS;
-use crate::buffers::UNTOUCHED;
+use cases::UNTOUCHED;
 use handout::NextAnswer;
 use replay::ReplayAnswer;
 
@@ -13,7 +13,7 @@ const MOST_RULES: usize = 256;
 pub fn night(case: &[u8]) {
     let mut words = [0; MOST_WORDS];
     let count = cases::numbers(cases::given(case), &mut words);
-    let given = buffers::front(&words, count);
+    let given = cases::front(&words, count);
     let mut table = [UNTOUCHED; MOST_TABLE];
     tables::tables(given, &mut table);
     let mut marks = [0; MOST_RULES];
@@ -50,7 +50,7 @@ fn hand_out(words: &[u16], table: &[u16], marks: &mut [u8]) -> bool {
             print::number(target);
             buffers::print_list(&sentence, tokens);
             buffers::print_list(&derivation, rules);
-            print_again(words, buffers::front(&derivation, rules), &sentence);
+            print_again(words, cases::front(&derivation, rules), &sentence);
             true
         }
         NextAnswer::Finished => {
@@ -58,7 +58,7 @@ fn hand_out(words: &[u16], table: &[u16], marks: &mut [u8]) -> bool {
             false
         }
         NextAnswer::Refused { number, place } => {
-            buffers::print_refusal(number, place);
+            print::refused(number, place);
             false
         }
     }
@@ -69,13 +69,13 @@ fn print_again(words: &[u16], derivation: &[u16], sentence: &[u16]) {
     let mut again = [UNTOUCHED; MOST_NUMBERS];
     match replay::replay(words, derivation, &mut again) {
         ReplayAnswer::Done(_) => {
-            if buffers::same(&again, sentence) {
+            if cases::same(&again, sentence) {
                 print::text(b" again");
             } else {
                 print::text(b" another");
             }
         }
-        ReplayAnswer::Refused { number, place } => buffers::print_refusal(number, place),
+        ReplayAnswer::Refused { number, place } => print::refused(number, place),
     }
 }
 

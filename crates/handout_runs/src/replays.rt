@@ -2,7 +2,7 @@
 use crate::buffers;
 use crate::buffers::MOST_NUMBERS;
 use crate::buffers::MOST_WORDS;
-use crate::buffers::UNTOUCHED;
+use cases::UNTOUCHED;
 use replay::ReplayAnswer;
 
 // More words than a replayed sentence has: 4,096 rules of 32 symbols.
@@ -15,8 +15,8 @@ pub fn replay(case: &[u8]) {
     let list_count = cases::numbers(cases::wanted(case), &mut list);
     let mut sentence = [UNTOUCHED; MOST_SENTENCE];
     lend(
-        buffers::front(&words, word_count),
-        buffers::front(&list, list_count),
+        cases::front(&words, word_count),
+        cases::front(&list, list_count),
         &mut sentence,
         room(case),
     );
@@ -26,7 +26,7 @@ pub fn replay(case: &[u8]) {
 fn room(case: &[u8]) -> usize {
     let mut numbers = [0; 2];
     cases::numbers(cases::before(case, b':'), &mut numbers);
-    buffers::wide(numbers[0]) * 1000 + buffers::wide(numbers[1])
+    cases::wide(numbers[0]) * 1000 + cases::wide(numbers[1])
 }
 
 // Lends the front of sentence.
@@ -40,11 +40,11 @@ fn run(words: &[u16], list: &[u16], sentence: &mut [u16]) {
         ReplayAnswer::Done(tokens) => {
             print::text(b" done");
             buffers::print_list(sentence, tokens);
-            buffers::print_kept(buffers::untouched(sentence, tokens));
+            print::kept(cases::untouched(sentence, tokens));
         }
         ReplayAnswer::Refused { number, place } => {
-            buffers::print_refusal(number, place);
-            buffers::print_kept(buffers::untouched(sentence, 0));
+            print::refused(number, place);
+            print::kept(cases::untouched(sentence, 0));
         }
     }
 }

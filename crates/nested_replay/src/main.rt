@@ -21,15 +21,8 @@ fn replay(words: &[u16]) {
     list[NUMBERS - 1] = 1;
     let mut sentence = [UNTOUCHED; NUMBERS];
     match replay::replay(words, &list, &mut sentence) {
-        ReplayAnswer::Done(tokens) => {
-            print::text(b" done");
-            print::number(tokens);
-        }
-        ReplayAnswer::Refused { number, place } => {
-            print::text(b" refused");
-            print::number(number as usize);
-            print::number(place);
-        }
+        ReplayAnswer::Done(tokens) => print::done(tokens),
+        ReplayAnswer::Refused { number, place } => print::refused(number, place),
     }
     print::text(b", tokens");
     print::number(count(&sentence, TOKEN));

@@ -12,3 +12,37 @@ pub fn number(n: usize) {
     text(b" ");
     io::print_decimal(STDOUT_FILENO, n as u64);
 }
+
+pub fn word(w: u16) {
+    number(w as usize);
+}
+
+pub fn words(list: &[u16]) {
+    let mut i = 0;
+    while i < list.len() {
+        word(list[i]);
+        i += 1;
+    }
+}
+
+// That a call is done, with the length it answers.
+pub fn done(length: usize) {
+    text(b" done");
+    number(length);
+}
+
+// That a call refuses, with the refusal's number and place.
+pub fn refused(refusal: u16, place: usize) {
+    text(b" refused");
+    word(refusal);
+    number(place);
+}
+
+// Whether lent memory has kept its content.
+pub fn kept(is_kept: bool) {
+    if is_kept {
+        text(b" kept");
+    } else {
+        text(b" changed");
+    }
+}

@@ -49,20 +49,15 @@ fn main() {
 // Whether the layout of these words is accepted. No later refusal meets them: each nonterminal has a tree and is reached, and
 // totals are small.
 fn layout(name: &[u8], text: &[u8]) {
-    let mut words = [0; MOST];
-    let count = cases::numbers(text, &mut words);
-    let mut table = [0; MOST];
-    let answer = tables::tables(&words[0..count], &mut table);
-    print::text(name);
-    match answer {
-        TableAnswer::Done(_) => print::text(b": layout accepted"),
-        TableAnswer::Refused { number, place } => print_refused(number, place),
-    }
-    print::text(b"\n");
+    run(name, text, false);
 }
 
 // What the totals of these words are.
 fn totals(name: &[u8], text: &[u8]) {
+    run(name, text, true);
+}
+
+fn run(name: &[u8], text: &[u8], with_totals: bool) {
     let mut words = [0; MOST];
     let count = cases::numbers(text, &mut words);
     let mut table = [0; MOST];
@@ -70,8 +65,11 @@ fn totals(name: &[u8], text: &[u8]) {
     print::text(name);
     match answer {
         TableAnswer::Done(length) => {
-            let written = cases::least(length, MOST);
-            print_totals(&table[0..written], totals_from(words[0]));
+            if with_totals {
+                print_totals(cases::front(&table, length), totals_from(words[0]));
+            } else {
+                print::text(b": layout accepted");
+            }
         }
         TableAnswer::Refused { number, place } => print_refused(number, place),
     }
@@ -85,7 +83,7 @@ fn totals_from(n: u16) -> usize {
 
 fn print_refused(number: u16, place: usize) {
     print::text(b":");
-    print::number(wide(number));
+    print::word(number);
     print::text(b" at");
     print::number(place);
 }
@@ -97,26 +95,10 @@ fn print_totals(table: &[u16], from: usize) {
         return;
     }
     let total = table[from];
-    if every(table, from, total) {
+    if cases::every(table, from, total) {
         print::text(b": every total");
-        print::number(wide(total));
+        print::word(total);
     } else {
         print::text(b": totals differ");
     }
-}
-
-// Whether every word from an index on is this one.
-fn every(table: &[u16], from: usize, word: u16) -> bool {
-    let mut i = from;
-    while i < table.len() {
-        if table[i] != word {
-            return false;
-        }
-        i += 1;
-    }
-    true
-}
-
-fn wide(word: u16) -> usize {
-    word as usize
 }

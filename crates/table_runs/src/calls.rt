@@ -1,4 +1,5 @@
-// The calls. A lent buffer holds 50,505 everywhere before a call, a number that no table has. Assumes nothing.
+// The calls. Assumes nothing.
+use cases::UNTOUCHED;
 use tables::TableAnswer;
 use tables::TableTest;
 
@@ -6,8 +7,6 @@ use tables::TableTest;
 const MOST_WORDS: usize = 9000;
 
 const MOST_ROOM: usize = 1000;
-
-const UNTOUCHED: u16 = 50505;
 
 pub fn tables_and_test(case: &[u8]) {
     let mut words = [0; MOST_WORDS];
@@ -19,9 +18,8 @@ pub fn tables_and_test(case: &[u8]) {
 
 // Lends the front of words and the front of table.
 fn lend(words: &[u16], count: usize, table: &mut [u16], room: usize) {
-    let given = cases::least(count, words.len());
     let part = cases::least(room, table.len());
-    run(&words[0..given], &mut table[0..part]);
+    run(cases::front(words, count), &mut table[0..part]);
 }
 
 fn run(words: &[u16], table: &mut [u16]) {
@@ -40,37 +38,14 @@ fn test(words: &[u16], table: &[u16]) -> TableTest {
 fn print_answer(answer: TableAnswer, table: &[u16]) {
     match answer {
         TableAnswer::Done(length) => {
-            print::text(b" done");
-            print::number(length);
-            print_kept(table, length);
+            print::done(length);
+            print::kept(cases::untouched(table, length));
         }
         TableAnswer::Refused { number, place } => {
-            print::text(b" refused");
-            print::number(number as usize);
-            print::number(place);
-            print_kept(table, 0);
+            print::refused(number, place);
+            print::kept(cases::untouched(table, 0));
         }
     }
-}
-
-fn print_kept(table: &[u16], from: usize) {
-    if untouched(table, from) {
-        print::text(b" kept");
-    } else {
-        print::text(b" changed");
-    }
-}
-
-// Whether nothing was written from an index on.
-fn untouched(table: &[u16], from: usize) -> bool {
-    let mut i = from;
-    while i < table.len() {
-        if table[i] != UNTOUCHED {
-            return false;
-        }
-        i += 1;
-    }
-    true
 }
 
 fn print_test(answer: TableTest) {
@@ -80,11 +55,7 @@ fn print_test(answer: TableTest) {
             print::number(rules);
         }
         TableTest::NotIts => print::text(b" not its"),
-        TableTest::Refused { number, place } => {
-            print::text(b" refused");
-            print::number(number as usize);
-            print::number(place);
-        }
+        TableTest::Refused { number, place } => print::refused(number, place),
     }
 }
 
@@ -93,7 +64,7 @@ fn print_table(answer: TableAnswer, words: &[u16], table: &mut [u16]) {
     if let TableAnswer::Done(length) = answer {
         let written = cases::least(length, table.len());
         print_alone(alone(words, &mut table[0..written]));
-        print_words(&table[0..written]);
+        print::words(&table[0..written]);
     }
 }
 
@@ -129,16 +100,4 @@ fn fails_changed(words: &[u16], table: &mut [u16], at: usize) -> bool {
         TableTest::NotIts => true,
         _ => false,
     }
-}
-
-fn print_words(words: &[u16]) {
-    let mut i = 0;
-    while i < words.len() {
-        print::number(wide(words[i]));
-        i += 1;
-    }
-}
-
-fn wide(word: u16) -> usize {
-    word as usize
 }
