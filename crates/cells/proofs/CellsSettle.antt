@@ -2,7 +2,10 @@
 use Prim.Native.Nat.{ℕ, _≤_, _%_}
 use mathlib.Core.Path.{_≡_, sym, _∙_}
 use mathlib.Core.List.{List}
-use lib.ListN.{set}
+use lib.ListN.{getD, set}
+
+pub read-settles : (part : List ℕ) (i : ℕ) {r s : ℕ} → r ≡ getD part i 0 → s ≡ getD part i 0 → r ≡ s
+read-settles part i p q = p ∙ sym q
 
 pub put-settles : (before : List ℕ) (i v : ℕ) {after after′ : List ℕ} →
     after ≡ set before i v → after′ ≡ set before i v → after ≡ after′

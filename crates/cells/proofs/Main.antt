@@ -2,10 +2,13 @@
 use Prim.Native.Nat.{ℕ, _≤_, _%_}
 use mathlib.Core.Path.{_≡_}
 use mathlib.Core.List.{List}
-use lib.ListN.{set}
+use lib.ListN.{getD, set}
 use Rattle.cells.proofs.CellsSettle as CellsSettle
 
 -- SETTLED. Any two outcomes that a promise allows for the same input coincide.
+pub read-settles : (part : List ℕ) (i : ℕ) {r s : ℕ} → r ≡ getD part i 0 → s ≡ getD part i 0 → r ≡ s
+read-settles = CellsSettle.read-settles
+
 pub put-settles : (before : List ℕ) (i v : ℕ) {after after′ : List ℕ} →
     after ≡ set before i v → after′ ≡ set before i v → after ≡ after′
 put-settles = CellsSettle.put-settles

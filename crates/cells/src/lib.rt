@@ -1,8 +1,14 @@
-// One word of lent memory, written where there is such an index; and a number as a word, and back. The hand-out and the replay
-// both stand on it. Assumes nothing.
+// One word of lent memory, read and written where there is such an index; and a number as a word, and back. Assumes nothing.
 ghost use mathlib.Core.Path.{_≡_};
 ghost use Prim.Native.Nat.{_≤_, _%_};
-ghost use lib.ListN.{set};
+ghost use lib.ListN.{getD, set};
+
+// The word at index i, and 0 past the end.
+pub fn read(part: &[u16], i: usize) -> u16
+    ensures { λ r. ⌜ r ≡ getD (now (part .entry)) i 0 ⌝ }
+{
+    if i < part.len() { part[i] } else { 0 }
+}
 
 // Writes v at index i; past the end nothing.
 pub fn put(part: &mut [u16], i: usize, v: u16)

@@ -1,6 +1,6 @@
 -- Document 01's sample tables and replays, of the definitions: each table by the test of figures, each replay by computing it.
 -- Assumes nothing.
-use Prim.Native.Nat.{ℕ, _+_, _*_}
+use Prim.Native.Nat.{ℕ}
 use native.Mathlib.Omega.{arith}
 use mathlib.Core.Path.{_≡_, refl}
 use mathlib.Core.List.{List, [], _∷_}
@@ -14,32 +14,41 @@ use Rattle.grammar.specs.Replaying.{replay, replayed, stepped, complete?
 use Rattle.grammar.proofs.Replay.{replay-stops}
 use Rattle.grammar.specs.Certificates.{symbolSize, wordSize, othersSize, Figures, AreFigures}
 use Rattle.grammar.proofs.FigureTest.{figures}
-use Rattle.grammar.specs.Samples.{D, D-words, empty-rule, D-table, loop}
+use Rattle.grammar.specs.Samples.{D, D-words, empty-rule, loop}
 use Rattle.grammar.proofs.ASampleOfWords.{D-reads}
 
--- "for each nonterminal five words (least, chosen rule, context, context rule, place counted from 0), then one total per rule"
-abbrev pub tabled : ℕ → List ℕ → Figures measure
-tabled N ws = record {
-  least = λ A. getD ws (5 * A) 0;
-  chosen = λ A. getD ws (5 * A + 1) 0;
-  context = λ A. getD ws (5 * A + 2) 0;
-  rule = λ A. getD ws (5 * A + 3) 0;
-  place = λ A. getD ws (5 * A + 4) 0;
-  total = λ r. getD ws (5 * N + r) 0;
+-- figures, each kind a list
+abbrev pub listed : (leasts chosen contexts rules places totals : List ℕ) → Figures measure
+listed leasts chosen contexts rules places totals = record {
+  least = λ A. getD leasts A 0;
+  chosen = λ A. getD chosen A 0;
+  context = λ A. getD contexts A 0;
+  rule = λ A. getD rules A 0;
+  place = λ A. getD places A 0;
+  total = λ r. getD totals r 0;
 }
 
-pub D-figures : AreFigures measure D (tabled 3 D-table)
+-- "tables of D: 3 0 0 65535 65535, 2 3 1 0 0, 1 4 3 2 0, then 3 7 4 3 4 5"
+abbrev pub D-listed : Figures measure
+D-listed =
+    listed (3 ∷ 2 ∷ 1 ∷ []) (0 ∷ 3 ∷ 4 ∷ []) (0 ∷ 1 ∷ 3 ∷ []) (65535 ∷ 0 ∷ 2 ∷ []) (65535 ∷ 0 ∷ 0 ∷ [])
+    (3 ∷ 7 ∷ 4 ∷ 3 ∷ 4 ∷ 5 ∷ [])
+
+pub D-figures : AreFigures measure D D-listed
 unfolding wordSize symbolSize othersSize
-D-figures = figures D (tabled 3 D-table) refl (in-bounds D-words D-reads)
+D-figures = figures D D-listed refl (in-bounds D-words D-reads)
 
 -- "words 1 0 0 0 0: table 1 0 0 65535 65535 1"
 empty-reads : layout (1 ∷ 0 ∷ 0 ∷ 0 ∷ 0 ∷ []) ≡ reads empty-rule
 unfolding layout lefts
 empty-reads = refl
 
-pub empty-figures : AreFigures measure empty-rule (tabled 1 (1 ∷ 0 ∷ 0 ∷ 65535 ∷ 65535 ∷ 1 ∷ []))
+abbrev pub empty-listed : Figures measure
+empty-listed = listed (1 ∷ []) (0 ∷ []) (0 ∷ []) (65535 ∷ []) (65535 ∷ []) (1 ∷ [])
+
+pub empty-figures : AreFigures measure empty-rule empty-listed
 unfolding wordSize symbolSize othersSize
-empty-figures = figures empty-rule (tabled 1 (1 ∷ 0 ∷ 0 ∷ 65535 ∷ 65535 ∷ 1 ∷ [])) refl (in-bounds _ empty-reads)
+empty-figures = figures empty-rule empty-listed refl (in-bounds _ empty-reads)
 
 -- "words 1 1 0 0 1 0 0 1 1: table 2 1 0 65535 65535 3 2"
 -- "Choosing the lowest rule by tokens alone: S gives S, S gives a, then opens S for ever."
@@ -47,9 +56,12 @@ loop-reads : layout (1 ∷ 1 ∷ 0 ∷ 0 ∷ 1 ∷ 0 ∷ 0 ∷ 1 ∷ 1 ∷ []) �
 unfolding layout lefts
 loop-reads = refl
 
-pub loop-figures : AreFigures measure loop (tabled 1 (2 ∷ 1 ∷ 0 ∷ 65535 ∷ 65535 ∷ 3 ∷ 2 ∷ []))
+abbrev pub loop-listed : Figures measure
+loop-listed = listed (2 ∷ []) (1 ∷ []) (0 ∷ []) (65535 ∷ []) (65535 ∷ []) (3 ∷ 2 ∷ [])
+
+pub loop-figures : AreFigures measure loop loop-listed
 unfolding wordSize symbolSize othersSize
-loop-figures = figures loop (tabled 1 (2 ∷ 1 ∷ 0 ∷ 65535 ∷ 65535 ∷ 3 ∷ 2 ∷ [])) refl (in-bounds _ loop-reads)
+loop-figures = figures loop loop-listed refl (in-bounds _ loop-reads)
 
 pub loop-least : Least measure loop 0 2
 loop-least = loop-figures .leasts 0 (omega arith)

@@ -7,7 +7,7 @@ use mathlib.Core.List.{List}
 use mathlib.Core.Path.{_≡_, ap, _∙_}
 use lib.ListN.{length, set, take, drop, length-drop}
 use lib.Seq.{take-all}
-use Rattle.tables.specs.Table.{entry}
+use Rattle.entries.specs.Table.{ruleIn, placeIn}
 use Rattle.handout.specs.declared.lister.Lengths.{Lengths}
 use Rattle.handout.specs.Listing.{sizesBy, rightOf, SymbolsReady, SymbolsWritten}
 use Rattle.handout.specs.TreeListing.{frontOf, backOf, FrontReady, BackReady, FrontWritten}
@@ -21,9 +21,9 @@ rest-is : (m : ℕ) (symbols : List ℕ) → rest m symbols ≡ drop m symbols
 rest-is m symbols = take-all (length symbols - m) (drop m symbols) (omega (arith, length-drop m symbols))
 
 module _ {words places table : List ℕ} {n A : ℕ} {p : Lengths} {symbols : List ℕ}
-    (is : symbols ≡ rightOf words places (entry table A 3)) where
+    (is : symbols ≡ rightOf words places (ruleIn table A)) where
   -- before the place
-  module _ {i : ℕ} (ready : FrontReady words places table n A p) (ei : i ≡ entry table A 4) where
+  module _ {i : ℕ} (ready : FrontReady words places table n A p) (ei : i ≡ placeIn table A) where
     pub front-within : i ≤ length symbols
     front-within = omega (arith, ready .beside .place, ap length is)
 
@@ -37,12 +37,12 @@ module _ {words places table : List ℕ} {n A : ℕ} {p : Lengths} {symbols : Li
       few = omega (arith, ready .few, ap (sizesBy n table) front-is);
     })
 
-    pub front-written : {a b x x₁ y : List ℕ} {p₁ q : Lengths} → p₁ ≡ oneRule p → x₁ ≡ set x (p .rules) (entry table A 3) →
+    pub front-written : {a b x x₁ y : List ℕ} {p₁ q : Lengths} → p₁ ≡ oneRule p → x₁ ≡ set x (p .rules) (ruleIn table A) →
         SymbolsWritten words places table n (take i symbols) a b x₁ y p₁ q → FrontWritten words places table n A a b x y p q
     front-written one e h = numbered one e (rw front-is at h)
 
   -- after it
-  module _ {i : ℕ} (ready : BackReady words places table n A p) (ei : i ≡ entry table A 4) where
+  module _ {i : ℕ} (ready : BackReady words places table n A p) (ei : i ≡ placeIn table A) where
     pub back-within : i + 1 ≤ length symbols
     back-within = omega (arith, ready .beside .place, ap length is)
 

@@ -19,7 +19,7 @@ use Rattle.grammar.proofs.RuleNumbers.{rule-number}
 use Rattle.layout.proofs.RulesByNumber.{right-whole}
 use Rattle.layout.proofs.RulesInView.{viewed-rule}
 use Rattle.grammar.proofs.WordsFew.{words-few}
-use Rattle.tables.specs.Table.{entry, tableLength}
+use Rattle.entries.specs.Table.{tableLength, chosenIn}
 use Rattle.handout.specs.declared.lister.Lengths.{Lengths}
 use Rattle.handout.specs.Listing.{Known, lengths, sizeBy, sizesBy, rightOf, Stands, SymbolReady, RuleReady, SymbolsReady, of-terminal}
 use Rattle.handout.specs.Listing.{of-nonterminal, SymbolsListed, RuleListed, Wrote, Listed, Written, SymbolWritten, RuleWritten}
@@ -194,7 +194,7 @@ module _ {words places table : List ℕ} {n : ℕ} where
       number = record { more-tokens = sym (add-zero (p .tokens)); more-rules = refl; sentence = refl; derivation = e }
 
   -- a nonterminal by its chosen rule
-  module _ {s k : ℕ} {p : Lengths} (ready : SymbolReady words places table n s p) (h : s < n) (e : k ≡ entry table s 1) where
+  module _ {s k : ℕ} {p : Lengths} (ready : SymbolReady words places table n s p) (h : s < n) (e : k ≡ chosenIn table s) where
     chosen : ChosenRule (ready .known) s k
     chosen = chosen-rule (ready .known) s k h e
 

@@ -17,7 +17,7 @@ use Rattle.grammar.specs.Certificates.{symbolSize, wordSize}
 use Rattle.grammar.proofs.Certificate.{word-sizes}
 use Rattle.grammar.proofs.LayoutExact.{in-bounds}
 use Rattle.grammar.proofs.Unique.{least-unique, sizes-unique}
-use Rattle.tables.specs.Table.{entry}
+use Rattle.entries.specs.Table.{leastIn, chosenIn}
 use Rattle.tables.proofs.Main.{entry-front}
 use Rattle.layout.proofs.RulesInView.{viewed-right}
 use Rattle.handout.specs.declared.lister.Lengths.{Lengths}
@@ -84,28 +84,28 @@ module _ (n : ℕ) (table : List ℕ) where
   unfolding sizeBy
   terminal-size s h = rw (le-ltb s n h)
 
-  least-size : (s : ℕ) → s < n → sizeBy n table s ≡ entry table s 0
+  least-size : (s : ℕ) → s < n → sizeBy n table s ≡ leastIn table s
   unfolding sizeBy
   least-size s h = rw (lt-ltb s n h)
 
 -- the sizes are the grammar's, and a nonterminal's is 1 plus those of its chosen rule's symbols
-sizes-are : (g : Grammar) (table w : List ℕ) → wordSize measure g (λ A. entry table A 0) w ≡ sizesBy (g .N) table w
+sizes-are : (g : Grammar) (table w : List ℕ) → wordSize measure g (λ A. leastIn table A) w ≡ sizesBy (g .N) table w
 unfolding sizesBy sizeBy wordSize symbolSize
 sizes-are g table [] = refl
 sizes-are g table (s ∷ w) = ap (λ x. sizeBy (g .N) table s + x) (sizes-are g table w)
 
 module _ {words places table : List ℕ} {n : ℕ} {g : Grammar} (known : Known words places table n g) where
-  known-least : (A : ℕ) → A < g .N → Least measure g A (entry table A 0)
+  known-least : (A : ℕ) → A < g .N → Least measure g A (leastIn table A)
   known-least A lt = rw (entry-front g table A 0 lt (omega arith)) at (known .tabled .leasts A lt)
 
-  pub known-chosen : (A : ℕ) → A < g .N → Chosen measure g A (entry table A 1)
+  pub known-chosen : (A : ℕ) → A < g .N → Chosen measure g A (chosenIn table A)
   known-chosen A lt = rw (entry-front g table A 1 lt (omega arith)) at (known .tabled .chosen A lt)
 
   -- a rule's size is 1 plus those of its symbols as the lister reads them
   pub rule-size-by : {A k x : ℕ} → RuleSize measure g A k x → x ≡ 1 + sizesBy n table (rightOf words places k)
   rule-size-by r =
       let right = viewed-right (known .view) (r .rule) in
-      let others = sizes-unique (r .sizes) (word-sizes measure g (λ A. entry table A 0) known-least (r .w)) in
+      let others = sizes-unique (r .sizes) (word-sizes measure g (λ A. leastIn table A) known-least (r .w)) in
       let sizes = sizes-are g table (r .w) ∙ ap (λ m. sizesBy m table (r .w)) (sym (known .view .nonterminals)) in
       omega (arith, r .is, others, sizes, ap (sizesBy n table) right)
 
@@ -115,7 +115,7 @@ module _ {words places table : List ℕ} {n : ℕ} {g : Grammar} (known : Known 
     pub chosen : Chosen measure g s k
     pub size : sizeBy n table s ≡ 1 + sizesBy n table (rightOf words places k)
 
-  pub chosen-rule : (s k : ℕ) → s < n → k ≡ entry table s 1 → ChosenRule s k
+  pub chosen-rule : (s k : ℕ) → s < n → k ≡ chosenIn table s → ChosenRule s k
   chosen-rule s k h e =
       let lt : s < g .N = omega (arith, known .view .nonterminals) in
       let c : Chosen measure g s k = rw (← e) at (known-chosen s lt) in

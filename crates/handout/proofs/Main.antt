@@ -13,7 +13,7 @@ use Rattle.grammar.specs.Refusals.{Accepted}
 use Rattle.replay.specs.Replay.{Replay}
 use Rattle.replay.specs.declared.ReplayAnswer.{ReplayAnswer}
 use Rattle.replay.specs.declared.ReplayAnswer.the-variants.{Done}
-use Rattle.tables.specs.Table.{HasTable}
+use Rattle.entries.specs.Table.{HasTable}
 use Rattle.tables.specs.Dead.{Dead}
 use Rattle.grammar.specs.Words.{Are}
 use Rattle.grammar.specs.Terms.{limit}

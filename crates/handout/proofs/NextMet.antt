@@ -14,7 +14,7 @@ use Rattle.grammar.specs.Terms.{measure, limit}
 use Rattle.grammar.specs.Refusals.{Lowest, Accepted}
 use Rattle.grammar.proofs.LayoutExact.{in-bounds}
 use Rattle.grammar.proofs.TreeOfExists.{tree-of-exists}
-use Rattle.tables.specs.Table.{HasTable}
+use Rattle.entries.specs.Table.{HasTable}
 use Rattle.answers.proofs.Gates.{stop, go}
 use Rattle.grammar.proofs.FirstRows.{OfWords, fault, grammar, FromFive}
 use Rattle.grammar.proofs.FirstRowsMet.{words-met, five-met}

@@ -15,7 +15,7 @@ use Rattle.grammar.specs.Least.{TreeOf}
 use Rattle.grammar.specs.Refusals.{Lowest, Accepted}
 use Rattle.grammar.proofs.Unique.{lowest-unique}
 use Rattle.grammar.proofs.SameListing.{tree-of-same}
-use Rattle.tables.specs.Table.{HasTable}
+use Rattle.entries.specs.Table.{HasTable}
 use Rattle.answers.proofs.Gates.{Gate, stop, go, Settles, gate-settles}
 use Rattle.grammar.proofs.FirstRows.{OfWords, fault, grammar, words-settle, FromFive, five-settles, past-seven}
 use Rattle.handout.specs.Next.{NextPromise, refused, Unused, AllUsed, Marked, Wanted, Lent}

@@ -11,7 +11,7 @@ use Rattle.grammar.specs.Words.{Grammar, R, layout, reads}
 use Rattle.grammar.specs.Tree.{sentence, derivation}
 use Rattle.grammar.specs.Refusals.{Lowest, Accepted}
 use Rattle.grammar.specs.Terms.{limit}
-use Rattle.tables.specs.Table.{HasTable}
+use Rattle.entries.specs.Table.{HasTable}
 use Rattle.handout.specs.Next.{NextPromise, Unused, AllUsed, Lent, finished, next}
 use Rattle.handout.specs.Night.{Handout, Night, clear, later, Over, Enough, GoesOn}
 use Rattle.handout.specs.declared.NextAnswer.{NextAnswer}

@@ -12,7 +12,7 @@ use Rattle.grammar.specs.Terms.{measure}
 use Rattle.grammar.specs.Least.{ChosenTree, ChosenForest, ChosenGap}
 use Rattle.grammar.proofs.SameListing.{same-forest}
 use Rattle.grammar.proofs.Unique.{chosen-unique}
-use Rattle.tables.specs.Table.{entry}
+use Rattle.entries.specs.Table.{chosenIn}
 use Rattle.layout.proofs.RulesInView.{viewed-right}
 use Rattle.handout.specs.Listing.{Known, sizeBy, sizesBy, SymbolsListed}
 use Rattle.handout.specs.TreeListing.{before, after, gapTokens, gapRules, tokensOn, rulesOn}
@@ -96,7 +96,7 @@ module _ {words places table : List ℕ} {n : ℕ} {g : Grammar} (known : Known 
     tree-size : {s : ℕ} (t : Tree g s) → ChosenTree measure g t → sizeBy n table s ≡ length (sentence t) + length (derivation t)
     tree-size (node {A} {w} k r f) h =
         let lt : A < n = omega (arith, r .left, known .view .nonterminals) in
-        let e : k ≡ entry table A 1 = chosen-unique (h .0) (known-chosen known A (r .left)) in
+        let e : k ≡ chosenIn table A = chosen-unique (h .0) (known-chosen known A (r .left)) in
         let right = ap (sizesBy n table) (viewed-right (known .view) r) in
         omega (arith, chosen-rule known A k lt e .size, forest-size f (h .1), right)
 

@@ -14,7 +14,7 @@ use Rattle.grammar.specs.Tree.{Open}
 use Rattle.grammar.specs.Terms.{measure}
 use Rattle.grammar.specs.Least.{ChosenOpen}
 use Rattle.grammar.proofs.RuleNumbers.{rule-number}
-use Rattle.tables.specs.Table.{entry}
+use Rattle.entries.specs.Table.{contextIn, ruleIn, placeIn}
 use Rattle.handout.specs.declared.lister.Lengths.{Lengths}
 use Rattle.handout.specs.Listing.{Known, SymbolsWritten}
 use Rattle.handout.specs.TreeListing.{FrontReady, BackReady, backOf, FrontWritten, upper, climbed, PathOf, before, after}
@@ -27,7 +27,7 @@ use Rattle.handout.proofs.TreeListerSteps.{back-ready, after-ready, aft
 pub record Reached (table : List ℕ) (n : ℕ) (g : Grammar) (A steps a : ℕ) : Type 0 where
   pub above : Open g a
   pub follows : ChosenOpen measure g above
-  pub fallen : steps + lower table n (entry table a 2) ≤ lower table n (entry table A 2)
+  pub fallen : steps + lower table n (contextIn table a) ≤ lower table n (contextIn table A)
 
 -- what noting them keeps: a is so many steps up from A, and those below it are noted
 pub record OnWay (words places table : List ℕ) (start A : ℕ) (path : List ℕ) (a steps : ℕ) : Type 0 where
@@ -101,13 +101,13 @@ module _ {words places table : List ℕ} {start A : ℕ} {path : List ℕ} {a st
     way-low = omega (arith, open-nonterminal (ready .known) (so-far .above), ready .known .view .nonterminals)
 
     module _ (d : ¬ (a ≡ start)) where
-      above : Up (ready .known) (so-far .above) (entry table a 3) (entry table a 4) (upper words places table a)
+      above : Up (ready .known) (so-far .above) (ruleIn table a) (placeIn table a) (upper words places table a)
       above = up (ready .known) (so-far .above) (so-far .follows) (λ e. d (e ∙ sym (ready .starts-at))) _ _ _ refl refl refl
 
-      pub way-number : entry table a 3 < R (ready .g)
+      pub way-number : ruleIn table a < R (ready .g)
       way-number = rule-number (above .rule)
 
-      pub way-falls : entry table (upper words places table a) 2 < entry table a 2
+      pub way-falls : contextIn table (upper words places table a) < contextIn table a
       way-falls = above .falls
 
 -- over a path that is noted

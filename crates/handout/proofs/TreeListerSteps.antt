@@ -12,7 +12,7 @@ use Rattle.grammar.specs.Least.{Context, ContextChoice, ChosenGap, ChosenOpen}
 use Rattle.grammar.proofs.LayoutExact.{in-bounds}
 use Rattle.grammar.proofs.RuleNumbers.{rule-number, rule-left}
 use Rattle.grammar.proofs.Unique.{choice-unique, context-unique}
-use Rattle.tables.specs.Table.{entry}
+use Rattle.entries.specs.Table.{contextIn, ruleIn, placeIn}
 use Rattle.tables.proofs.Main.{entry-front}
 use Rattle.layout.proofs.RulesInView.{viewed-left, viewed-right}
 use Rattle.handout.specs.declared.lister.Lengths.{Lengths}
@@ -23,10 +23,10 @@ use Rattle.handout.proofs.Listings.{and-then, nothing}
 use Rattle.handout.proofs.OpenListings.{before-listed, after-listed, gap-within, listed-same, listed-size}
 
 module _ {words places table : List ℕ} {n : ℕ} {g : Grammar} (known : Known words places table n g) where
-  pub known-context : (A : ℕ) → A < g .N → Context measure g A (entry table A 2)
+  pub known-context : (A : ℕ) → A < g .N → Context measure g A (contextIn table A)
   known-context A lt = rw (entry-front g table A 2 lt (omega arith)) at (known .tabled .contexts A lt)
 
-  known-choice : (A : ℕ) → A < g .N → ¬ (A ≡ g .start) → ContextChoice measure g A (entry table A 3) (entry table A 4)
+  known-choice : (A : ℕ) → A < g .N → ¬ (A ≡ g .start) → ContextChoice measure g A (ruleIn table A) (placeIn table A)
   known-choice A lt d =
       rw (entry-front g table A 3 lt (omega arith), entry-front g table A 4 lt (omega arith)) at (known .tabled .choices A lt d)
 
@@ -39,7 +39,7 @@ module _ {words places table : List ℕ} {n : ℕ} {g : Grammar} (known : Known 
     pub follows : ChosenOpen measure g above
     pub gap : Gap g w i A
     pub chosen : ChosenGap measure g gap
-    pub falls : entry table B 2 < entry table A 2
+    pub falls : contextIn table B < contextIn table A
     pub tokens-before : tokensOn before x ≡ tokensOn before above ++ gapTokens before gap
     pub rules-before : rulesOn before x ≡ rulesOn before above ++ (k ∷ gapRules before gap)
     pub tokens-after : tokensOn after x ≡ gapTokens after gap ++ tokensOn after above
@@ -50,16 +50,16 @@ module _ {words places table : List ℕ} {n : ℕ} {g : Grammar} (known : Known 
   gap-nonterminal (past-leaf p a) = gap-nonterminal a
   gap-nonterminal (past-child t a) = gap-nonterminal a
 
-  pub up : {A : ℕ} (x : Open g A) → ChosenOpen measure g x → ¬ (A ≡ g .start) → (k i B : ℕ) → k ≡ entry table A 3 →
-      i ≡ entry table A 4 → B ≡ getD words (getD places k 0) 0 → Up x k i B
+  pub up : {A : ℕ} (x : Open g A) → ChosenOpen measure g x → ¬ (A ≡ g .start) → (k i B : ℕ) → k ≡ ruleIn table A →
+      i ≡ placeIn table A → B ≡ getD words (getD places k 0) 0 → Up x k i B
   up root h d k i B ek ei eB = absurd (d refl)
   up (down {A} {B = B′} {i = i′} {w} k′ r x a) h d k i B ek ei eB =
       let lt = gap-nonterminal a in
       let (fk, fi) = choice-unique (h .0) (known-choice A lt d) in
       let c = h .0 .attains in
       let sameB : B′ ≡ c .B = rule-left refl r (c .rule) in
-      let outer : entry table B′ 2 ≡ c .outer = context-unique (known-context B′ (r .left)) (rw sameB (c .context)) in
-      let figure : entry table A 2 ≡ h .0 .figure = context-unique (known-context A lt) (h .0 .context) in
+      let outer : contextIn table B′ ≡ c .outer = context-unique (known-context B′ (r .left)) (rw sameB (c .context)) in
+      let figure : contextIn table A ≡ h .0 .figure = context-unique (known-context A lt) (h .0 .context) in
       let kk : k ≡ k′ = ek ∙ sym fk in
       let ii : i ≡ i′ = ei ∙ sym fi in
       let BB : B ≡ B′ = eB ∙ ap (λ m. getD words (getD places m 0) 0) kk ∙ viewed-left (known .view) r in
@@ -107,7 +107,7 @@ module _ {words places table : List ℕ} {n start : ℕ} where
   -- the step up that the tree lister takes, from what it reads of the table and the words
   module _ {side : Side} {A : ℕ} {p : Lengths} (ready : SideReady side words places table n start A p)
       (d : ¬ (A ≡ start)) where
-    z : Up (ready .known) (ready .above) (entry table A 3) (entry table A 4) (upper words places table A)
+    z : Up (ready .known) (ready .above) (ruleIn table A) (placeIn table A) (upper words places table A)
     z = up (ready .known) (ready .above) (ready .follows) (λ e. d (e ∙ sym (ready .starts-at))) _ _ _ refl refl refl
 
     -- the leaf has a place in the context rule
@@ -122,7 +122,7 @@ module _ {words places table : List ℕ} {n start : ℕ} where
   -- before an open leaf
   module _ {A : ℕ} {p : Lengths} (ready : SideReady before words places table n start A p)
       (d : ¬ (A ≡ start)) where
-    abbrev u : Up (ready .known) (ready .above) (entry table A 3) (entry table A 4) (upper words places table A)
+    abbrev u : Up (ready .known) (ready .above) (ruleIn table A) (placeIn table A) (upper words places table A)
     u = z ready d
 
     tokens-long :
@@ -131,7 +131,7 @@ module _ {words places table : List ℕ} {n start : ℕ} where
 
     rules-long :
         length (rulesOn before (ready .above)) ≡ length (rulesOn before (u .above)) + suc (length (gapRules before (u .gap)))
-    rules-long = ap length (u .rules-before) ∙ length-append (rulesOn before (u .above)) (entry table A 3 ∷ gapRules before (u .gap))
+    rules-long = ap length (u .rules-before) ∙ length-append (rulesOn before (u .above)) (ruleIn table A ∷ gapRules before (u .gap))
 
     pub before-ready : SideReady before words places table n start (upper words places table A) p
     before-ready = record {
@@ -148,7 +148,7 @@ module _ {words places table : List ℕ} {n start : ℕ} where
     front-ready above =
         let there = above (ready .g) (ready .known) (ready .starts-at) (u .above) (u .follows) in
         let size = listed-size (ready .known) (before-listed (u .gap) (u .chosen)) in
-        let same = ap (λ w. sizesBy n table (take (entry table A 4) w)) (u .right) in
+        let same = ap (λ w. sizesBy n table (take (placeIn table A) w)) (u .right) in
         let us = there .more-tokens in
         let vs = there .more-rules in
         record {
@@ -168,12 +168,12 @@ module _ {words places table : List ℕ} {n start : ℕ} where
       let (us, vs) = listed-same m (before-listed (u .gap) (u .chosen)) in
       let all = and-then (above g known s (u .above) (u .follows)) (l .wrote) in
       wrote-as (ap (λ m. tokensOn before (u .above) ++ m) us ∙ sym (u .tokens-before))
-      (ap (λ m. rulesOn before (u .above) ++ m) (l .lists .is ∙ ap (λ m. entry table A 3 ∷ m) vs) ∙ sym (u .rules-before)) all
+      (ap (λ m. rulesOn before (u .above) ++ m) (l .lists .is ∙ ap (λ m. ruleIn table A ∷ m) vs) ∙ sym (u .rules-before)) all
 
   -- after an open leaf
   module _ {A : ℕ} {p : Lengths} (ready : SideReady after words places table n start A p)
       (d : ¬ (A ≡ start)) where
-    abbrev u′ : Up (ready .known) (ready .above) (entry table A 3) (entry table A 4) (upper words places table A)
+    abbrev u′ : Up (ready .known) (ready .above) (ruleIn table A) (placeIn table A) (upper words places table A)
     u′ = z ready d
 
     tokens-long′ :
@@ -186,7 +186,7 @@ module _ {words places table : List ℕ} {n start : ℕ} where
     size′ : sizesBy n table (backOf words places table A) ≡
         length (gapTokens after (u′ .gap)) + length (gapRules after (u′ .gap))
     size′ =
-        ap (λ w. sizesBy n table (drop (suc (entry table A 4)) w)) (u′ .right)
+        ap (λ w. sizesBy n table (drop (suc (placeIn table A)) w)) (u′ .right)
         ∙ listed-size (ready .known) (after-listed (u′ .gap) (u′ .chosen))
 
     pub back-ready : BackReady words places table n A p

@@ -11,7 +11,7 @@ use Rattle.answers.specs.Buffers.{Written}
 use Rattle.grammar.specs.Words.{Grammar, R, layout, faults}
 use Rattle.grammar.specs.Tree.{Tree, sentence, derivation}
 use Rattle.grammar.specs.Refusals.{Lowest, NoTree, AllTrees, Unreached, AllReached, Oversize, Accepted}
-use Rattle.tables.specs.Table.{HasTable}
+use Rattle.entries.specs.Table.{HasTable, Own}
 use Rattle.grammar.specs.Words.{Are}
 use Rattle.grammar.specs.Terms.{limit}
 use Rattle.tables.specs.Given.{Own}

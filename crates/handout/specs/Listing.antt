@@ -15,7 +15,7 @@ use Rattle.grammar.specs.Tree.{Tree, Forest, sentence, sentences, derivation, d
 use Rattle.grammar.specs.Terms.{measure, limit}
 use Rattle.grammar.specs.Least.{ChosenTree, ChosenForest}
 use Rattle.grammar.specs.Certificates.{either}
-use Rattle.tables.specs.Table.{HasTable, entry}
+use Rattle.entries.specs.Table.{leastIn, HasTable}
 use Rattle.layout.specs.View.{View}
 use Rattle.handout.specs.declared.lister.Lengths.{Lengths}
 
@@ -26,7 +26,7 @@ pub record Known (words places table : List ℕ) (n : ℕ) (g : Grammar) : Type 
 
 -- a symbol's size by the table, and the sizes of some symbols: what their listings take, and what falls from call to call
 unfoldable pub sizeBy : ℕ → List ℕ → ℕ → ℕ
-sizeBy n table s = either (ltb s n) (entry table s 0) 1
+sizeBy n table s = either (ltb s n) (leastIn table s) 1
 
 unfoldable pub sizesBy : ℕ → List ℕ → List ℕ → ℕ
 sizesBy n table [] = 0

@@ -16,7 +16,7 @@ use Rattle.grammar.specs.Tree.{Tree, sentence, derivation, _∈_}
 use Rattle.grammar.specs.Terms.{measure, limit}
 use Rattle.grammar.specs.Least.{TreeOf}
 use Rattle.grammar.specs.Refusals.{Lowest, NoTree, AllTrees, Unreached, AllReached, Oversize, Accepted}
-use Rattle.tables.specs.Table.{HasTable}
+use Rattle.entries.specs.Table.{HasTable}
 use Rattle.handout.specs.declared.NextAnswer.{NextAnswer}
 use Rattle.handout.specs.declared.NextAnswer.the-variants.{Next, Finished, Refused}
 

@@ -12,7 +12,7 @@ use Rattle.grammar.specs.Tree.{sentence, sentences, derivation, derivations}
 use Rattle.grammar.specs.Terms.{measure, limit}
 use Rattle.grammar.specs.Least.{ChosenOpen, TreeOf}
 use Rattle.grammar.specs.Refusals.{Accepted}
-use Rattle.tables.specs.Table.{entry}
+use Rattle.entries.specs.Table.{ruleIn, placeIn}
 use Rattle.handout.specs.declared.lister.Lengths.{Lengths}
 use Rattle.handout.specs.Listing.{Known, sizesBy, rightOf, RuleListed, Wrote, Written}
 
@@ -20,15 +20,15 @@ use Rattle.handout.specs.Listing.{Known, sizesBy, rightOf, RuleListed, W
 pub record Beside (words places table : List ℕ) (n A : ℕ) (g : Grammar) : Type 0 where
   pub known : Known words places table n g
   pub leaf : A < n
-  pub number : entry table A 3 < R g
-  pub place : entry table A 4 < length (rightOf words places (entry table A 3))
+  pub number : ruleIn table A < R g
+  pub place : placeIn table A < length (rightOf words places (ruleIn table A))
 
 -- the symbols before A's place in its context rule, and those after it
 abbrev pub frontOf : List ℕ → List ℕ → List ℕ → ℕ → List ℕ
-frontOf words places table A = take (entry table A 4) (rightOf words places (entry table A 3))
+frontOf words places table A = take (placeIn table A) (rightOf words places (ruleIn table A))
 
 abbrev pub backOf : List ℕ → List ℕ → List ℕ → ℕ → List ℕ
-backOf words places table A = drop (suc (entry table A 4)) (rightOf words places (entry table A 3))
+backOf words places table A = drop (suc (placeIn table A)) (rightOf words places (ruleIn table A))
 
 -- the number of A's context rule and the symbols before the place can be listed; and those after it
 pub record FrontReady (words places table : List ℕ) (n A : ℕ) (past : Lengths) : Type 0 where
@@ -44,12 +44,12 @@ pub record BackReady (words places table : List ℕ) (n A : ℕ) (past : Lengths
 -- the number and the symbols before the place are written
 abbrev pub FrontWritten : List ℕ → List ℕ → List ℕ → ℕ → ℕ → List ℕ → List ℕ → List ℕ → List ℕ → Lengths → Lengths → Type 0
 FrontWritten words places table n A tokens tokens′ rules rules′ past so =
-    Written words places table n (λ g. RuleListed g (entry table A 3) (frontOf words places table A))
+    Written words places table n (λ g. RuleListed g (ruleIn table A) (frontOf words places table A))
     (1 + sizesBy n table (frontOf words places table A)) tokens tokens′ rules rules′ past so
 
 -- the left side of A's context rule, and the nonterminal so many steps up
 abbrev pub upper : List ℕ → List ℕ → List ℕ → ℕ → ℕ
-upper words places table A = getD words (getD places (entry table A 3) 0) 0
+upper words places table A = getD words (getD places (ruleIn table A) 0) 0
 
 unfoldable pub climbed : List ℕ → List ℕ → List ℕ → ℕ → ℕ → ℕ
 climbed words places table A zero = A

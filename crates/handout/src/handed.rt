@@ -16,7 +16,7 @@ use layout::words::word;
 // With the grammar's own table: 9, Finished, or a sentence.
 pub fn with_table(
     words: &[u16],
-    places: &[u16; 256],
+    places: &[u16],
     rules: usize,
     table: &[u16],
     marks: &mut [u8],
@@ -44,7 +44,7 @@ pub fn with_table(
 // the derivation; otherwise they are counted first.
 fn hand_out(
     words: &[u16],
-    places: &[u16; 256],
+    places: &[u16],
     table: &[u16],
     target: usize,
     marks: &mut [u8],
@@ -83,7 +83,7 @@ fn both_within(total: usize, tokens: usize, rules: usize) -> bool
 // Counted first, so that 3 and 10 are known before a word is written.
 fn count_first(
     words: &[u16],
-    places: &[u16; 256],
+    places: &[u16],
     table: &[u16],
     request: Request,
     marks: &mut [u8],
@@ -118,7 +118,7 @@ fn count_first(
 // The sentence, the derivation and the marks, for which there is room.
 fn write_out(
     words: &[u16],
-    places: &[u16; 256],
+    places: &[u16],
     table: &[u16],
     request: Request,
     marks: &mut [u8],

@@ -18,7 +18,7 @@ pub struct Lengths {
 }
 
 // The symbols of the rule of a number.
-pub fn right_of<'a>(words: &'a [u16], places: &[u16; 256], rule: u16) -> &'a [u16]
+pub fn right_of<'a>(words: &'a [u16], places: &[u16], rule: u16) -> &'a [u16]
     requires { ⌜ Stands (now words) (now places) rule ⌝ }
     ensures { λ r. ⌜ now r ≡ rightOf (now (words .entry)) (now (places .entry)) rule ⌝ }
 {
@@ -31,7 +31,7 @@ pub fn right_of<'a>(words: &'a [u16], places: &[u16; 256], rule: u16) -> &'a [u1
 // Lists the symbol s: a terminal as itself, a nonterminal as its chosen rule.
 pub fn list_symbol(
     words: &[u16],
-    places: &[u16; 256],
+    places: &[u16],
     table: &[u16],
     n: usize,
     s: u16,
@@ -57,7 +57,7 @@ pub fn list_symbol(
 // thing more to keep over each call.
 pub fn list_rule(
     words: &[u16],
-    places: &[u16; 256],
+    places: &[u16],
     table: &[u16],
     n: usize,
     rule: u16,
@@ -86,7 +86,7 @@ pub fn list_rule(
 // Lists some symbols in order.
 pub fn list_symbols(
     words: &[u16],
-    places: &[u16; 256],
+    places: &[u16],
     table: &[u16],
     n: usize,
     symbols: &[u16],

@@ -28,7 +28,7 @@ pub struct Request {
 // Notes the nonterminals from a up to the start, which is not noted, by context choices; how many they are.
 fn climb(
     words: &[u16],
-    places: &[u16; 256],
+    places: &[u16],
     table: &[u16],
     start: usize,
     from: usize,
@@ -50,7 +50,7 @@ fn climb(
 // Lists the number of the context rule of a, and the symbols before the place.
 fn list_front(
     words: &[u16],
-    places: &[u16; 256],
+    places: &[u16],
     table: &[u16],
     n: usize,
     a: usize,
@@ -82,7 +82,7 @@ fn list_front(
 // Lists what lies before the lowest nonterminal of the path: context by context from the start down.
 fn list_before(
     words: &[u16],
-    places: &[u16; 256],
+    places: &[u16],
     table: &[u16],
     n: usize,
     path: &[u16],
@@ -116,7 +116,7 @@ fn list_before(
 // Lists the symbols after the place in the context rule of a.
 fn list_back(
     words: &[u16],
-    places: &[u16; 256],
+    places: &[u16],
     table: &[u16],
     n: usize,
     a: usize,
@@ -147,7 +147,7 @@ fn list_back(
 // Lists what lies after the lowest nonterminal of the path: context by context up to the start.
 fn list_after(
     words: &[u16],
-    places: &[u16; 256],
+    places: &[u16],
     table: &[u16],
     n: usize,
     path: &[u16],
@@ -182,7 +182,7 @@ fn list_after(
 // Lists the tree of the target: what lies before its left side, the rule, and what lies after.
 pub fn list_tree(
     words: &[u16],
-    places: &[u16; 256],
+    places: &[u16],
     table: &[u16],
     request: Request,
     sentence: &mut [u16],

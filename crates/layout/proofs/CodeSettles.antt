@@ -1,9 +1,7 @@
 -- Any two outcomes that a promise of the code allows coincide. None of the functions is lent what it could write. Assumes nothing.
 use mathlib.Core.Path.{_≡_, ap, sym, _∙_}
 use mathlib.Core.List.{List}
-use Prim.Native.Nat.{ℕ, _≤_, _<_}
-use native.Mathlib.Decide.{decLt}
-use native.Mathlib.Omega.{arith}
+use Prim.Native.Nat.{ℕ}
 use lib.ListN.{getD}
 use denote.Ref.{RefT}
 use Rattle.grammar.specs.Words.{layout}
@@ -36,10 +34,5 @@ pub read-settles : (ws : List ℕ) {r s : Reading} → r .answer ≡ answerOf (l
     s .answer ≡ answerOf (layout ws) → s .places ≡ placesOf (layout ws) → r ≡ s
 read-settles ws p e q f = λ i. record { answer = (p ∙ sym q) i; places = (e ∙ sym f) i }
 
-pub index-settles : (places : List ℕ) (k : ℕ) {r s : ℕ} → (k < 256 → r ≡ getD places k 0) × (256 ≤ k → r ≡ 0) →
-    (k < 256 → s ≡ getD places k 0) × (256 ≤ k → s ≡ 0) → r ≡ s
-index-settles places k {r} {s} p q = go (decLt k 256)
-  where
-    go : Dec (k < 256) → r ≡ s
-    go (yes h) = p .0 h ∙ sym (q .0 h)
-    go (no h) = let le : 256 ≤ k = omega arith in p .1 le ∙ sym (q .1 le)
+pub index-settles : (places : List ℕ) (k : ℕ) {r s : ℕ} → r ≡ getD places k 0 → s ≡ getD places k 0 → r ≡ s
+index-settles places k p q = p ∙ sym q

@@ -12,6 +12,7 @@ pub mod RulesByNumber
 pub mod PlacesNoted
 -- What the layers above read of words.
 pub mod RulesInView
+pub mod RulesInside
 pub mod WordsRead
 -- The final statements.
 pub mod CodeSettles

@@ -1,6 +1,6 @@
 -- The final statements of this crate, each by one citation. A reader who believes specs/ and reads this page is done.
 -- Assumes nothing.
-use Prim.Native.Nat.{ℕ, _≤_, _<_}
+use Prim.Native.Nat.{ℕ}
 use mathlib.Core.Path.{_≡_}
 use mathlib.Core.Logic.{_↔_}
 use mathlib.Core.List.{List}
@@ -42,8 +42,7 @@ pub read-settles : (ws : List ℕ) {r s : Reading} → r .answer ≡ answerOf (l
     s .answer ≡ answerOf (layout ws) → s .places ≡ placesOf (layout ws) → r ≡ s
 read-settles = CodeSettles.read-settles
 
-pub index-settles : (places : List ℕ) (k : ℕ) {r s : ℕ} → (k < 256 → r ≡ getD places k 0) × (256 ≤ k → r ≡ 0) →
-    (k < 256 → s ≡ getD places k 0) × (256 ≤ k → s ≡ 0) → r ≡ s
+pub index-settles : (places : List ℕ) (k : ℕ) {r s : ℕ} → r ≡ getD places k 0 → s ≡ getD places k 0 → r ≡ s
 index-settles = CodeSettles.index-settles
 
 pub right-settles : (ws : List ℕ) (at : ℕ) {r s : List ℕ} → r ≡ rightAt ws at → s ≡ rightAt ws at → r ≡ s

@@ -3,24 +3,13 @@ ghost use mathlib.Core.Path.{_≡_};
 ghost use Prim.Native.Nat.{_≤_, _<_};
 ghost use lib.ListN.{length, getD};
 ghost use Rattle.layout.specs.Rules.{rightAt};
-use crate::walk::MOST_RULES;
 use crate::words::word;
 
-fn wide(index: u16) -> usize
-    ensures { λ r. ⌜ r ≡ index ⌝ }
+// The index of the rule of a number, where the places were found; 0 past the last of them.
+pub fn index(places: &[u16], number: usize) -> usize
+    ensures { λ r. ⌜ r ≡ getD (now (places .entry)) number 0 ⌝ }
 {
-    index as usize
-}
-
-// The index of the rule of a number, where the places were found; 0 past the most rules.
-pub fn index(places: &[u16; 256], number: usize) -> usize
-    ensures { λ r. ⌜ (number < 256 → r ≡ getD (now (places .entry)) number 0) × (256 ≤ number → r ≡ 0) ⌝ }
-{
-    if number < MOST_RULES {
-        wide(places[number])
-    } else {
-        0
-    }
+    word(places, number)
 }
 
 // The symbols of the rule whose left side is at an index; none where no whole rule stands there.

@@ -28,7 +28,7 @@ pub enum Outcome {
 // Opens the next symbol, a nonterminal, by the next number; what is left of its right side waits.
 fn expand(
     words: &[u16],
-    places: &[u16; 256],
+    places: &[u16],
     rules: usize,
     list: &[u16],
     form: Open,
@@ -63,7 +63,7 @@ fn expand(
 // are to be used.
 fn step(
     words: &[u16],
-    places: &[u16; 256],
+    places: &[u16],
     rules: usize,
     list: &[u16],
     form: Open,
@@ -94,7 +94,7 @@ fn step(
 // Steps from the start, which is the word 2, to the end; the tokens are stored as far as there is room.
 pub fn run(
     words: &[u16],
-    places: &[u16; 256],
+    places: &[u16],
     n: usize,
     rules: usize,
     list: &[u16],

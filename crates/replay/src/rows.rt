@@ -27,7 +27,7 @@ const SOME_NUMBERS: usize = 256;
 // 12, and what follows.
 pub fn of_grammar(
     words: &[u16],
-    places: &[u16; 256],
+    places: &[u16],
     n: usize,
     rules: usize,
     list: &[u16],
@@ -54,7 +54,7 @@ pub fn of_grammar(
 // A short list, with little room to clear.
 fn of_few(
     words: &[u16],
-    places: &[u16; 256],
+    places: &[u16],
     n: usize,
     rules: usize,
     list: &[u16],
@@ -80,7 +80,7 @@ fn of_few(
 // A longer one, of which the sentence can be long.
 fn of_some(
     words: &[u16],
-    places: &[u16; 256],
+    places: &[u16],
     n: usize,
     rules: usize,
     list: &[u16],
@@ -106,7 +106,7 @@ fn of_some(
 // Any list.
 fn of_many(
     words: &[u16],
-    places: &[u16; 256],
+    places: &[u16],
     n: usize,
     rules: usize,
     list: &[u16],
@@ -133,7 +133,7 @@ fn of_many(
 // a second run.
 fn of_list(
     words: &[u16],
-    places: &[u16; 256],
+    places: &[u16],
     n: usize,
     rules: usize,
     list: &[u16],

@@ -21,9 +21,9 @@ use Rattle.grammar.specs.Terms.{limit}
 use Rattle.grammar.proofs.FigureTest.{each-at}
 use Rattle.grammar.proofs.Main.{layout-exact, dead, replay-exact, replay-stops}
 use Rattle.replay.specs.Replay.{mostNumbers}
-use Rattle.tables.specs.Table.{IsTable, totalEntry}
+use Rattle.entries.specs.Table.{totalIn, IsTable}
 use Rattle.tables.specs.Promise as tables
-use Rattle.tables.specs.TableCertificates.{passes?}
+use Rattle.entries.specs.TableCertificates.{passes?}
 use Rattle.tables.proofs.Main.{computed-table}
 use Rattle.replay.specs.Replay as replayed
 use Rattle.samples.specs.Row.{Row, unpack-of, tables-of, replay-of, refusal-of, night-of, Result, writes, refuses}
@@ -48,7 +48,7 @@ same (x ∷ xs) (y ∷ ys) t =
 
 -- THE TESTS, each of what was computed and of the row's result
 abbrev pub totals-fit? : Grammar → List ℕ → Bool
-totals-fit? g table = each (λ r. leb (totalEntry g table r) limit) (R g)
+totals-fit? g table = each (λ r. leb (totalIn (g .N) table r) limit) (R g)
 
 abbrev pub table? : Judged Grammar → Result → Bool
 table? (reads g) (writes table) = passes? g table && totals-fit? g table
@@ -85,9 +85,9 @@ table-accepts {g} {table} is t =
       trees = trees;
       reached = reached;
       fit = λ r l. record {
-        total = totalEntry g table r;
+        total = totalIn (g .N) table r;
         is = is .totals r l;
-        within = leb-true _ limit (each-at (λ r. leb (totalEntry g table r) limit) (R g) t r l);
+        within = leb-true _ limit (each-at (λ r. leb (totalIn (g .N) table r) limit) (R g) t r l);
       };
     }
   where

@@ -14,7 +14,7 @@ use Rattle.grammar.specs.Least.{TreeOf}
 use Rattle.grammar.specs.Refusals.{Lowest, Accepted}
 use Rattle.grammar.proofs.Main.{tree-of-same}
 use Rattle.grammar.specs.Samples.{empty-rule, loop}
-use Rattle.tables.specs.Table.{IsTable, HasTable}
+use Rattle.entries.specs.Table.{IsTable, HasTable}
 use Rattle.tables.proofs.Main.{empty-has-table, loop-has-table}
 use Rattle.handout.specs.Next.{Unused, AllUsed, Marked, Wanted, next, finished}
 use Rattle.handout.specs.Night.{handout}

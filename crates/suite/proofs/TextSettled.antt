@@ -16,7 +16,7 @@ use Rattle.packed.specs.Promise.BadLength.{under-three, odd, above, not-followi
 use Rattle.packed.specs.Promise.Unpacked.{wrong-version, wrong-length, no-room-for-words, all-words}
 use Rattle.packed.specs.declared.FileAnswer.the-variants as file-answer
 use Rattle.packed.proofs.Main.{unpack-settles, passes-exactly}
-use Rattle.tables.specs.Table.{tableLength}
+use Rattle.entries.specs.Table.{tableLength}
 use Rattle.tables.specs.Promise.{Tables, row-4, row-5, row-6, row-7, row-3, done}
 use Rattle.tables.specs.declared.TableAnswer.{TableAnswer}
 use Rattle.tables.specs.declared.TableAnswer.the-variants as table-answer

@@ -9,7 +9,7 @@ use Rattle.answers.specs.Refusals.{number, broken-layout}
 use Rattle.grammar.specs.Words.{Grammar, layout, reads, faults}
 use Rattle.grammar.specs.Refusals.{Accepted}
 use Rattle.grammar.specs.Terms.{limit}
-use Rattle.tables.specs.Table.{HasTable}
+use Rattle.entries.specs.Table.{HasTable}
 use Rattle.tables.specs.Promise.{Tables}
 use Rattle.tables.specs.declared.TableAnswer.the-variants.{Refused}
 use Rattle.lines.specs.Lines.{refusedLine}

@@ -12,7 +12,7 @@ use Rattle.packed.specs.declared.FileAnswer.the-variants as file-answer
 use Rattle.grammar.specs.Words.{Grammar, R, layout, reads}
 use Rattle.grammar.specs.Refusals.{Accepted}
 use Rattle.grammar.specs.Terms.{limit}
-use Rattle.tables.specs.Table.{HasTable}
+use Rattle.entries.specs.Table.{HasTable}
 use Rattle.tables.specs.Promise.{Tables}
 use Rattle.tables.specs.declared.TableAnswer.the-variants as table-answer
 use Rattle.handout.specs.Night.{Handout, handout, Over}

@@ -20,59 +20,18 @@ use Rattle.grammar.proofs.FigureTest.{each-at, figures}
 use Rattle.grammar.specs.Samples.{D, D-words, D-table}
 use Rattle.grammar.specs.Terms.{measure, limit}
 use Rattle.grammar.proofs.ASampleOfWords.{D-reads, no-words, ends-early, no-rules}
-use Rattle.tables.specs.Table.{IsTable, totalEntry}
 use Rattle.tables.specs.Promise.{Tables, refused, row-4, row-5, row-6, row-3, done, Tested, its, not-its}
 use Rattle.tables.specs.declared.TableAnswer.the-variants.{Done}
 use Rattle.tables.specs.declared.TableTest.the-variants.{Its, NotIts}
-use Rattle.tables.specs.TableCertificates.{figuresOf}
-
--- "tables of D: 3 0 0 65535 65535, 2 3 1 0 0, 1 4 3 2 0, then 3 7 4 3 4 5"
-D-figures : AreFigures measure D (figuresOf D D-table)
-unfolding wordSize symbolSize othersSize
-D-figures = figures D (figuresOf D D-table) refl (in-bounds D-words D-reads)
-
-pub D-has-table : IsTable D D-table
-D-has-table = record {
-  long = refl;
-  leasts = D-figures .leasts;
-  chosen = D-figures .chosens;
-  contexts = D-figures .contexts;
-  choices = D-figures .choices;
-  start-rule = refl;
-  start-place = refl;
-  totals = D-figures .totals;
-}
-
-D-trees : AllTrees D
-D-trees A lt = D-figures .leasts A lt .tree
-
-D-reached : AllReached D
-D-reached A lt = open-reached (D-figures .contexts A lt .tree)
-
-D-fits : AllFit limit D
-D-fits r l = record {
-  total = totalEntry D D-table r;
-  is = D-figures .totals r l;
-  within = leb-true _ limit (each-at (λ r. leb (totalEntry D D-table r) limit) 6 refl r l);
-}
+use Rattle.entries.specs.TableCertificates.{figuresOf}
 
 -- into 22 words it is written, and the last of them keeps its content; into 20 it does not fit
 pub D-written : Tables D-words (replicate 22 9) (Done 21) (D-table ++ 9 ∷ [])
 unfolding over
-D-written = done D-reads D-trees D-reached D-fits (omega arith) D-has-table
+D-written = done D-reads (D-accepted .trees) (D-accepted .reached) (D-accepted .fit) (omega arith) D-has-table
 
 pub D-too-long : Tables D-words (replicate 20 9) (refused (too-short 21)) (replicate 20 9)
-D-too-long = row-3 D-reads D-trees D-reached D-fits (omega arith)
-
--- and `test` takes what was written, and nothing shorter
-D-accepted : Accepted limit D
-D-accepted = record { trees = D-trees; reached = D-reached; fit = D-fits }
-
-pub D-table-its : Tested D-words (D-table ++ 9 ∷ []) (Its 6)
-D-table-its = its D-reads D-accepted D-has-table
-
-pub twenty-not-its : Tested D-words (replicate 20 9) NotIts
-twenty-not-its = not-its D-reads D-accepted (λ z. let long = z .long in omega arith)
+D-too-long = row-3 D-reads (D-accepted .trees) (D-accepted .reached) (D-accepted .fit) (omega arith)
 
 -- "words 3 4: 4 at 2"; "zero words; tables of them: 4 at 0"
 pub breaks-at-2 : Tables (3 ∷ 4 ∷ []) [] (refused (broken-layout 2)) []

@@ -21,7 +21,7 @@ use Rattle.grammar.proofs.AtRest.{place-figure}
 use Rattle.tables.specs.Figures.{figure, Has, capped, Lowered, fell, stayed, LeastsDone, ContextsSound, ContextQuiet}
 use Rattle.tables.specs.ContextSteps.{PlaceStep, skipped, tried, PlacesStep, no-symbol, symbol}
 use Rattle.tables.specs.ContextSteps.{ContextStep, as-seen, unseen, Known, Tried, Stands, SeenTurn}
-use Rattle.tables.proofs.SizeApart.{size-apart}
+use Rattle.entries.proofs.SizeApart.{size-apart}
 use Rattle.tables.proofs.DoneLeasts.{done-certificate}
 use Rattle.tables.proofs.ContextsFall.{place-length, places-no-higher, context-no-higher}
 use Rattle.tables.proofs.FiguresHaveRoom.{room-for-all}

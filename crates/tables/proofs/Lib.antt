@@ -26,7 +26,6 @@ pub mod WrittenInOrder
 pub mod RuleSummed
 pub mod SymbolsCost
 pub mod LeastRounds
-pub mod RulesInside
 pub mod RuleSizes
 pub mod DoneLeasts
 pub mod ContextsFall

@@ -13,7 +13,7 @@ use Rattle.grammar.specs.Terms.{measure, limit}
 use Rattle.grammar.specs.Refusals.{Lowest, NoTree, AllTrees, Unreached, AllReached, Oversize, AllFit, Accepted}
 use Rattle.grammar.specs.Certificates.{Leasts, Contexts}
 use Rattle.grammar.specs.Samples.{D, empty-rule, D-table, loop}
-use Rattle.tables.specs.Table.{IsTable, HasTable, tableLength, totalEntry, entry}
+use Rattle.entries.specs.Table.{HasTable, Own}
 use Rattle.tables.specs.Dead.{Dead, SaysDead}
 use Rattle.tables.specs.Promise.{Tables, Tested, TestPromise, refused, refusedTest}
 use Rattle.tables.specs.declared.TableAnswer.{TableAnswer}
@@ -22,67 +22,20 @@ use Rattle.tables.specs.declared.TableTest.{TableTest}
 use Rattle.tables.specs.declared.TableTest.the-variants.{Its, NotIts}
 use Rattle.tables.specs.declared.Testing.{Testing}
 use Rattle.tables.proofs.ASampleOfTables as ASampleOfTables
-use Rattle.tables.proofs.TableSamples as TableSamples
-use Rattle.tables.proofs.TablePlaces as TablePlaces
-use Rattle.tables.proofs.TableIsOne as TableIsOne
-use Rattle.tables.proofs.TableExists as TableExists
-use Rattle.tables.proofs.TableFits as TableFits
-use Rattle.tables.proofs.TableTests as TableTests
-use Rattle.tables.specs.TableCertificates.{Passes, passes?, WorkedOut}
-use Rattle.tables.proofs.TableComputed as TableComputed
-use Rattle.tables.proofs.TableWorkedOut as TableWorkedOut
+use Rattle.entries.proofs.TableSamples as TableSamples
+use Rattle.entries.proofs.TablePlaces as TablePlaces
+use Rattle.entries.proofs.TableIsOne as TableIsOne
+use Rattle.entries.proofs.TableExists as TableExists
+use Rattle.entries.proofs.TableFits as TableFits
+use Rattle.entries.proofs.TableTests as TableTests
+use Rattle.entries.specs.TableCertificates.{Passes, passes?, WorkedOut}
+use Rattle.entries.proofs.TableComputed as TableComputed
+use Rattle.entries.proofs.TableWorkedOut as TableWorkedOut
 use Rattle.tables.proofs.TablesSettles as TablesSettles
 use Rattle.tables.proofs.TablesExact as TablesExact
 use Rattle.tables.specs.Given.{Given, GivenDone, Written, Own}
 use Rattle.tables.proofs.DeadGrammars as DeadGrammars
-use Rattle.tables.proofs.TestSettles as TestSettles
-
--- THE TABLE. A grammar has one at most, and one where all nonterminals have trees and are reached.
-pub table-unique : {g : Grammar} {ws vs : List ℕ} → IsTable g ws → IsTable g vs → ws ≡ vs
-table-unique = TableIsOne.table-unique
-
-pub table-exists : (g : Grammar) → InBounds g → AllTrees g → AllReached g → (ws : List ℕ) × IsTable g ws
-table-exists = TableExists.table-exists
-
--- Words are the table exactly where they pass the tests of `Passes`, which speak of the words and the rules alone. What passes
--- when computed passes.
-pub table-tests : (g : Grammar) → InBounds g → (ws : List ℕ) → Passes g ws ↔ IsTable g ws
-table-tests = TableTests.table-tests
-
-pub passes?-sound : (g : Grammar) (ws : List ℕ) → So (passes? g ws) → Passes g ws
-passes?-sound = TableComputed.passes?-sound
-
--- So words that pass when computed are the table.
-pub computed-table : {g : Grammar} → InBounds g → (ws : List ℕ) → So (passes? g ws) → IsTable g ws
-computed-table = TableComputed.computed-table
-
--- Whether a lent table is the grammar's is decided.
-pub tabled? : (table : List ℕ) (g : Grammar) → InBounds g → Accepted limit g → Dec (HasTable g table)
-tabled? = TestSettles.tabled?
-
--- What is read of a lent table at the places of an entry or a total is what its first 5N + R words have there.
-pub entry-front : (g : Grammar) (ws : List ℕ) (A j : ℕ) → A < g .N → j < 5 → entry (take (tableLength g) ws) A j ≡ entry ws A j
-entry-front = TablePlaces.entry-front
-
-pub total-front : (g : Grammar) (ws : List ℕ) (r : ℕ) → r < R g → totalEntry g (take (tableLength g) ws) r ≡ totalEntry g ws r
-total-front = TablePlaces.total-front
-
--- Words worked out from leasts and contexts, each choice the first that comes to its figure, are the table.
-pub worked-out : (g : Grammar) (v u : ℕ → ℕ) → InBounds g → Leasts measure g v → Contexts measure g v u →
-    {ws : List ℕ} → WorkedOut g v u ws → IsTable g ws
-worked-out = TableWorkedOut.worked-out
-
--- If no Total is above 4,096, its words are 16-bit words; a least and a context of one nonterminal are together 4,096 at most.
-pub table-words-fit : {g : Grammar} {ws : List ℕ} → InBounds g → AllFit limit g → IsTable g ws → (i : ℕ) → getD ws i 0 < 65536
-table-words-fit = TableFits.table-words-fit
-
-pub sizes-fit : {g : Grammar} {ws : List ℕ} → InBounds g → AllFit limit g → IsTable g ws →
-    (A : ℕ) → A < g .N → entry ws A 0 + entry ws A 2 ≤ limit
-sizes-fit = TableFits.sizes-fit
-
-pub total-fits : {g : Grammar} {ws : List ℕ} → InBounds g → AllFit limit g → IsTable g ws →
-    (r : ℕ) → r < R g → totalEntry g ws r ≤ limit
-total-fits = TableFits.total-fits
+use Rattle.table_test.proofs.TestSettles as TestSettles
 
 -- TABLES. Its promise allows exactly one outcome, answer and buffer, for each words and each buffer before.
 pub tables-settles : (words before : List ℕ) {a a′ : TableAnswer} {after after′ : List ℕ} →
@@ -172,17 +125,7 @@ pub tables-tested : {words before after : List ℕ} {a : TableAnswer} → Tables
     (n : ℕ) → a ≡ Done n → (rules : ℕ) × Tested words after (Its rules)
 tables-tested = TablesExact.tables-tested
 
--- SAMPLES. The tables that document 01 prints.
-pub D-has-table : IsTable D D-table
-D-has-table = ASampleOfTables.D-has-table
-
-pub empty-has-table : IsTable empty-rule (1 ∷ 0 ∷ 0 ∷ 65535 ∷ 65535 ∷ 1 ∷ [])
-empty-has-table = TableSamples.empty-has-table
-
-pub loop-has-table : IsTable loop (2 ∷ 1 ∷ 0 ∷ 65535 ∷ 65535 ∷ 3 ∷ 2 ∷ [])
-loop-has-table = TableSamples.loop-has-table
-
--- "words 1 0 0: 5 at 0", "words 2 0 0 0 0: 5 at 1", "words 2 0 0 0 0 1 0: 6 at 1"
+-- SAMPLES. "words 1 0 0: 5 at 0", "words 2 0 0 0 0: 5 at 1", "words 2 0 0 0 0 1 0: 6 at 1"
 pub no-tree-at-0 : Tables (1 ∷ 0 ∷ 0 ∷ []) [] (refused (no-tree 0)) []
 no-tree-at-0 = ASampleOfTables.no-tree-at-0
 

@@ -15,10 +15,10 @@ use Rattle.grammar.specs.Caps.{ceiling}
 use Rattle.grammar.proofs.LayoutExact.{in-bounds, reads-unique}
 use Rattle.grammar.proofs.RuleNumbers.{rule-number}
 use Rattle.grammar.proofs.CappedTotals.{all-fit-exact}
-use Rattle.tables.specs.Table.{HasTable, tableLength}
+use Rattle.entries.specs.Table.{tableLength, HasTable}
 use Rattle.tables.specs.Promise.{Tables, row-4, row-5, row-6, row-7, row-3, done}
 use Rattle.tables.specs.Promise.{Tested, test-4, test-5, test-6, test-7, its, not-its, placesWith, TestPromise}
-use Rattle.tables.specs.Tests.{Says}
+use Rattle.table_test.specs.Passes.{Says}
 use Rattle.tables.specs.Figures.{figure, FirstAbove, found-none, LeastsDone, ContextsRest, TotalsOf}
 use Rattle.tables.specs.LeastSteps.{LeastsSized}
 use Rattle.layout.specs.View.{View, Begun}

@@ -17,14 +17,14 @@ use Rattle.grammar.proofs.RuleNumbers.{rule-number}
 use Rattle.grammar.specs.Certificates.{wordSize, Leasts, Holds, Contexts}
 use Rattle.grammar.proofs.ContextCertificate.{context-certificate}
 use Rattle.grammar.proofs.ContextsExist.{holds-below}
-use Rattle.tables.specs.Table.{IsTable}
+use Rattle.entries.specs.Table.{IsTable}
 use Rattle.tables.specs.Figures.{figure, SizesOf, First, none-has, first, RuleFits, ChosenOf, PlaceFits, PlacesOf}
 use Rattle.tables.specs.Written.{contextRule, contextPlace, fiveWord}
-use Rattle.tables.proofs.SizeApart.{size-apart}
+use Rattle.entries.proofs.SizeApart.{size-apart}
 use Rattle.tables.proofs.TableEntries.{tableWords, table-length, at-five, at-total, or-none, or-some}
-use Rattle.tables.specs.TableCertificates as out
-use Rattle.tables.specs.TableCertificates.{Attaining, Leading}
-use Rattle.tables.proofs.TableWorkedOut.{worked-out, first-rule, first-place}
+use Rattle.entries.specs.TableCertificates as out
+use Rattle.entries.specs.TableCertificates.{Attaining, Leading}
+use Rattle.entries.proofs.TableWorkedOut.{worked-out, first-rule, first-place}
 
 -- what is first, where there is one at all
 record FirstOf (P : ℕ → Type 0) (n x : ℕ) : Type 0 where

@@ -12,13 +12,13 @@ use Rattle.answers.specs.Buffers.{over}
 use Rattle.grammar.specs.Words.{Are, FaultAt}
 use Rattle.grammar.proofs.LayoutExact.{in-bounds, reads-unique}
 use Rattle.grammar.proofs.FirstOffence.{layout-faults-exact}
-use Rattle.tables.specs.Table.{tableLength}
+use Rattle.entries.specs.Table.{tableLength}
 use Rattle.tables.specs.Promise.{Tables, Tested, refused, row-4, row-5, row-6, row-7, row-3, done, its}
 use Rattle.tables.specs.declared.TableAnswer.{TableAnswer}
 use Rattle.tables.specs.declared.TableAnswer.the-variants.{Done}
 use Rattle.tables.specs.declared.TableTest.the-variants.{Its}
 use Rattle.tables.specs.Given.{Given, GivenDone, Written}
-use Rattle.tables.proofs.TableExists.{table-exists}
+use Rattle.entries.proofs.TableExists.{table-exists}
 use Rattle.tables.proofs.TablesSettles.{tables-settles}
 
 module _ (words before : List ℕ) where

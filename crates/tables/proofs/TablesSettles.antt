@@ -13,15 +13,15 @@ use Rattle.answers.specs.Buffers.{over}
 use Rattle.grammar.specs.Words.{Grammar, InBounds}
 use Rattle.grammar.specs.Refusals.{Accepted}
 use Rattle.grammar.specs.Terms.{limit}
-use Rattle.tables.specs.Table.{IsTable, tableLength}
+use Rattle.entries.specs.Table.{tableLength, IsTable}
 use Rattle.tables.specs.Promise.{Tables, refused, row-4, row-5, row-6, row-7, row-3, done}
 use Rattle.tables.specs.declared.TableAnswer.{TableAnswer}
 use Rattle.tables.specs.declared.TableAnswer.the-variants.{Done}
 use Rattle.answers.proofs.Gates.{Gate, stop, go, Settles, gate-settles}
 use Rattle.grammar.proofs.FirstRows.{OfWords, fault, grammar, words-settle, FromFive, five-settles}
 use Rattle.grammar.proofs.FirstRowsMet.{words-met, five-met}
-use Rattle.tables.proofs.TableIsOne.{table-unique}
-use Rattle.tables.proofs.TableExists.{table-exists}
+use Rattle.entries.proofs.TableIsOne.{table-unique}
+use Rattle.entries.proofs.TableExists.{table-exists}
 
 module _ (words before : List ℕ) where
   -- the answer and the buffer afterwards

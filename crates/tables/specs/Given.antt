@@ -9,7 +9,7 @@ use Rattle.answers.specs.Refusals.{unreached, oversize, not-its-table, few-mark
 use Rattle.grammar.specs.Words.{Grammar, layout, faults, Are}
 use Rattle.grammar.specs.Refusals.{Lowest, NoTree, AllTrees, Unreached, AllReached, Oversize, Accepted}
 use Rattle.grammar.specs.Terms.{limit}
-use Rattle.tables.specs.Table.{HasTable, tableLength}
+use Rattle.entries.specs.Table.{tableLength, HasTable, Own}
 
 module _ (words before : List ℕ) where
   -- "Given exactly when", of each refusal, as `tables` gives it: 8 to 12, 1 and 2 never

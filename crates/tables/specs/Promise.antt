@@ -11,7 +11,7 @@ use Rattle.grammar.specs.Words.{Grammar, R, layout, reads, faults}
 use Rattle.layout.specs.Judge.{noPlaces, placesOf}
 use Rattle.grammar.specs.Refusals.{Lowest, NoTree, AllTrees, Unreached, AllReached, Oversize, AllFit, Accepted}
 use Rattle.grammar.specs.Terms.{limit}
-use Rattle.tables.specs.Table.{IsTable, HasTable, tableLength}
+use Rattle.entries.specs.Table.{tableLength, IsTable, HasTable}
 use Rattle.tables.specs.declared.TableAnswer.{TableAnswer}
 use Rattle.tables.specs.declared.TableAnswer.the-variants.{Done, Refused}
 use Rattle.tables.specs.declared.TableTest.{TableTest}

@@ -42,7 +42,7 @@ fn note_symbols(notes: &mut [u16], symbols: &[u16], rule: usize) {
 }
 
 // Notes for each nonterminal a short rule that names it.
-pub fn note_users(words: &[u16], places: &[u16; 256], rules: usize, users: &mut [u16])
+pub fn note_users(words: &[u16], places: &[u16], rules: usize, users: &mut [u16])
     requires { ⌜ rules ≤ 256 ⌝ }
 {
     let mut r = 0;
@@ -53,7 +53,7 @@ pub fn note_users(words: &[u16], places: &[u16; 256], rules: usize, users: &mut 
 }
 
 // Notes for each nonterminal a rule of it.
-pub fn note_rules(words: &[u16], places: &[u16; 256], rules: usize, owned: &mut [u16])
+pub fn note_rules(words: &[u16], places: &[u16], rules: usize, owned: &mut [u16])
     requires { ⌜ rules ≤ 256 ⌝ }
 {
     let mut r = 0;
@@ -84,7 +84,7 @@ fn link(symbols: &[u16], n: usize) -> usize {
 // Tries a rule, and where the least of its left side falls, the rule noted for that, and so on.
 fn follow_least(
     words: &[u16],
-    places: &[u16; 256],
+    places: &[u16],
     n: usize,
     rules: usize,
     users: &[u16],
@@ -111,7 +111,7 @@ fn follow_least(
 // The turn of a rule, and what follows it: 1 where the least of its left side fell, else 0.
 pub fn least_turn(
     words: &[u16],
-    places: &[u16; 256],
+    places: &[u16],
     n: usize,
     rules: usize,
     users: &[u16],
@@ -144,7 +144,7 @@ pub fn least_turn(
 // Tries a rule, and where a context falls, the rule noted for the last of its symbols, and so on.
 fn follow_context(
     words: &[u16],
-    places: &[u16; 256],
+    places: &[u16],
     n: usize,
     rules: usize,
     sizes: &[u32; 256],
@@ -178,7 +178,7 @@ fn follow_context(
 // The turn of a rule, and what follows it: 1 where a context fell, else 0.
 pub fn context_turn(
     words: &[u16],
-    places: &[u16; 256],
+    places: &[u16],
     n: usize,
     rules: usize,
     sizes: &[u32; 256],

@@ -34,7 +34,7 @@ fn choose_rule(left: usize, size: u32, r: u16, leasts: &[u16], chosen: &mut [u16
 // The first rule of each nonterminal whose size is its least.
 pub fn choose_rules(
     words: &[u16],
-    places: &[u16; 256],
+    places: &[u16],
     rules: usize,
     leasts: &[u16],
     sizes: &[u32; 256],
@@ -110,7 +110,7 @@ fn choose_places_of(
 // The first rule and place of each nonterminal that give its context, as one number.
 pub fn choose_places(
     words: &[u16],
-    places: &[u16; 256],
+    places: &[u16],
     n: usize,
     rules: usize,
     leasts: &[u16],

@@ -100,7 +100,7 @@ pub fn context_of_rule(
 // A round over all rules, from the first to the last or back; how many figures fell.
 fn context_round(
     words: &[u16],
-    places: &[u16; 256],
+    places: &[u16],
     n: usize,
     rules: usize,
     sizes: &[u32; 256],
@@ -142,7 +142,7 @@ fn context_round(
 // Rounds up and down in turn until one changes nothing.
 pub fn context_rounds(
     words: &[u16],
-    places: &[u16; 256],
+    places: &[u16],
     n: usize,
     rules: usize,
     sizes: &[u32; 256],
@@ -180,7 +180,7 @@ pub fn context_rounds(
 // The total of each rule, cut at 4,097.
 pub fn rule_totals(
     words: &[u16],
-    places: &[u16; 256],
+    places: &[u16],
     rules: usize,
     sizes: &[u32; 256],
     contexts: &[u16],

@@ -60,7 +60,7 @@ pub fn lower_least(left: usize, symbols: &[u16], n: usize, leasts: &mut [u16]) -
 // A round over all rules, from the first to the last or back; how many figures fell.
 fn least_round(
     words: &[u16],
-    places: &[u16; 256],
+    places: &[u16],
     n: usize,
     rules: usize,
     users: &[u16],
@@ -86,7 +86,7 @@ fn least_round(
 // Rounds up and down in turn, after one down in which so many figures fell, until one changes nothing.
 fn more_rounds(
     words: &[u16],
-    places: &[u16; 256],
+    places: &[u16],
     n: usize,
     rules: usize,
     users: &[u16],
@@ -134,7 +134,7 @@ fn size_settles(
 // The size of each rule by the leasts; whether none is below the least of its left side.
 fn sizes_settle(
     words: &[u16],
-    places: &[u16; 256],
+    places: &[u16],
     n: usize,
     rules: usize,
     leasts: &[u16],
@@ -167,7 +167,7 @@ fn sizes_settle(
 // and there is no second.
 pub fn least_rounds(
     words: &[u16],
-    places: &[u16; 256],
+    places: &[u16],
     n: usize,
     rules: usize,
     leasts: &mut [u16],

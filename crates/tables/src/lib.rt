@@ -117,7 +117,7 @@ fn beside(answer: TableTest, places: [u16; 256]) -> Testing
 // write it: 3 says that they are passed.
 fn test_grammar(
     words: &[u16],
-    places: &[u16; 256],
+    places: &[u16],
     n: usize,
     start: usize,
     rules: usize,

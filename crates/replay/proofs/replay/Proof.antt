@@ -16,8 +16,8 @@ enum-known-answer-2 c = search needs
 
 of-grammar-requires : tie.Need-of-grammar-requires
 of-grammar-requires c κs =
-    let read = c .before .before .before .before .before .before .read in
-    let begun = begun-of _ (read .ensures .0) (read .ensures .1) (c .before .before .before .before .answer2 .given .1) in
+    let read = c .before .before .before .before .before .before .before .read in
+    let begun = begun-of _ (read .ensures .0) (read .ensures .1) (c .before .before .before .before .before .answer2 .given .1) in
     (begun .grammar, begun .view)
 
 returns : tie.Need-returns

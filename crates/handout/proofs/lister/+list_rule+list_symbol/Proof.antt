@@ -9,7 +9,7 @@ use borrow.Author.Needs.{needs}
 use borrow.Fn.Kinds.{In}
 use borrow.Fn.PlainCycle.{Measures, is, falls, and}
 use Rattle.layout.specs.Walk.{countAt}
-use Rattle.tables.specs.Table.{entry}
+use Rattle.entries.specs.Table.{chosenIn}
 use Rattle.handout.specs.Listing.{lengths, sizeBy, sizesBy, rightOf}
 use Rattle.handout.proofs.Listings.{number-low}
 use Rattle.handout.proofs.ListerSteps.{rule-stands, table-long, tokens-kept, rules-kept, RuleTurn, rule-begins, rule-falls, rule-next}
@@ -273,7 +273,7 @@ symbol-list-rule-requires t c κs =
     let start = c .before .before .before .before .before .before .before .before .before in
     let wide = c .before .before .before .before .wide .ensures in
     let low : start .args .s < start .args .n = omega (arith, wide, c .before .before .before .if1 .left) in
-    let number = ap (λ (A : ℕ). entry (start .args .table .now) A 1) wide in
+    let number = ap (λ (A : ℕ). chosenIn (start .args .table .now) A) wide in
     let less = rule-smaller (start .pre .1) low number in
     (omega (arith, start .pre .0), rule-ready (start .pre .1) low number)
 
@@ -288,7 +288,7 @@ symbol-returns-2 t c =
     let start = c .before .before .before .before .before .before .before .before .before .before .before .before .before .before in
     let wide = c .before .before .before .before .before .before .before .before .before .wide .ensures in
     let low : start .args .s < start .args .n = omega (arith, wide, c .before .before .before .before .before .before .before .before .if1 .left) in
-    let number = ap (λ (A : ℕ). entry (start .args .table .now) A 1) wide in
+    let number = ap (λ (A : ℕ). chosenIn (start .args .table .now) A) wide in
     chosen-listed (start .pre .1) low number (c .before .before .before .before .list-rule .ensures)
 
 pub +list-rule+list-symbol-spec : {M : Type 1} → statement M

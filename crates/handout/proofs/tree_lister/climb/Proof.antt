@@ -5,7 +5,7 @@ use native.Mathlib.Omega.{arith}
 use mathlib.Core.Path.{_≡_, refl, ap, _∙_}
 use Prim.Native.Nat.{ℕ}
 use lib.ListN.{length, getD}
-use Rattle.tables.specs.Table.{entry}
+use Rattle.entries.specs.Table.{contextIn}
 use Rattle.handout.proofs.ListerSteps.{few-words, nonterminal-low, table-long, index-is, rule-stands}
 use Rattle.handout.proofs.PathSteps.{OnWay, way-begins, way-on, way-ends, way-low, way-number, way-falls, way-short}
 use Rattle.handout.proofs.tree_lister.climb.Statement.{statement}
@@ -16,7 +16,7 @@ Inv-loop words places table start from path₀ a₀ steps₀ path a steps =
     (length path ≡ length path₀) × OnWay words places table start from path a steps
 
 abbrev μ-loop : tie.MeasureT-loop
-μ-loop words places table start from path₀ a₀ steps₀ path a steps = entry table a 2
+μ-loop words places table start from path₀ a₀ steps₀ path a steps = contextIn table a
 
 loop-holds : tie.Need-loop-holds Inv-loop μ-loop
 loop-holds c =

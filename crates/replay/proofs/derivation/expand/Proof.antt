@@ -10,7 +10,7 @@ use Rattle.replay.proofs.derivation.expand.Tie as tie
 
 returns : tie.Need-returns
 returns c =
-    let p = c .before .before .before .before .pre in
+    let p = c .before .before .before .before .before .pre in
     (tt, λ g n view below. none-left (p .1 .1) (p .0) view below (omega arith))
 
 mul-wide : tie.Need-mul-wide
@@ -25,8 +25,8 @@ wide-requires c κs = search needs
 returns-2 : tie.Need-returns-2
 returns-2 c =
     let start = c .before .before .before .before .before .before .before in
-    let p = start .pre in
-    let more : start .args .form .next < length (start .args .list .now) = omega (arith, c .before .before .before .if1 .left) in
+    let p = start .before .pre in
+    let more : start .before .args .form .next < length (start .before .args .list .now) = omega (arith, c .before .before .before .if1 .left) in
     (tt, λ g n view below. no-rule (p .1 .1) (p .0) view below (c .before .wide .ensures) more (omega arith))
 
 index-requires : tie.Need-index-requires
@@ -37,10 +37,10 @@ mul-if3 c =
     let found = c in
     let read = found .before .before in
     let start = read .before .before .before .before .before .before in
-    let ground = start .pre .1 .0 in
+    let ground = start .before .pre .1 .0 in
     let k = read .wide .result in
-    let l : k < start .args .rules = omega (arith, found .before .if2 .left) in
-    let at = found .index .ensures .0 (omega (arith, ground .few-rules)) in
+    let l : k < start .before .args .rules = omega (arith, found .before .if2 .left) in
+    let at = found .index .ensures in
     omega (arith, at, ground .whole k l, ground .few-words)
 
 shared-slice-read-if3 : tie.Need-shared-slice-read-if3
@@ -48,10 +48,10 @@ shared-slice-read-if3 c =
     let found = c .before in
     let read = found .before .before in
     let start = read .before .before .before .before .before .before in
-    let ground = start .pre .1 .0 in
+    let ground = start .before .pre .1 .0 in
     let k = read .wide .result in
-    let l : k < start .args .rules = omega (arith, found .before .if2 .left) in
-    let at = found .index .ensures .0 (omega (arith, ground .few-rules)) in
+    let l : k < start .before .args .rules = omega (arith, found .before .if2 .left) in
+    let at = found .index .ensures in
     omega (arith, at, ground .whole k l)
 
 mul-if3-2 : tie.Need-mul-if3-2
@@ -65,11 +65,11 @@ returns-3 c =
     let found = c .before .before .before in
     let read = found .before .before in
     let start = read .before .before .before .before .before .before in
-    let p = start .pre in
+    let p = start .before .pre in
     let k = read .wide .result in
-    let l : k < start .args .rules = omega (arith, found .before .if2 .left) in
-    let more : start .args .form .next < length (start .args .list .now) = omega (arith, read .before .before .if1 .left) in
-    let at = found .index .ensures .0 (omega (arith, p .1 .0 .few-rules)) in
+    let l : k < start .before .args .rules = omega (arith, found .before .if2 .left) in
+    let more : start .before .args .form .next < length (start .before .args .list .now) = omega (arith, read .before .before .if1 .left) in
+    let at = found .index .ensures in
     let other = rw at at (c .if3 .taken) in
     (tt, λ g n view below. other-rule (p .1 .1) (p .0) view below (read .wide .ensures) more l (λ e. other e))
 
@@ -78,11 +78,11 @@ open-rule-requires c κs =
     let found = c .before .before .before .before in
     let read = found .before .before in
     let start = read .before .before .before .before .before .before in
-    let p = start .pre in
+    let p = start .before .pre in
     let k = read .wide .result in
-    let l : k < start .args .rules = omega (arith, found .before .if2 .left) in
-    let more : start .args .form .next < length (start .args .list .now) = omega (arith, read .before .before .if1 .left) in
-    let at = found .index .ensures .0 (omega (arith, p .1 .0 .few-rules)) in
+    let l : k < start .before .args .rules = omega (arith, found .before .if2 .left) in
+    let more : start .before .args .form .next < length (start .before .args .list .now) = omega (arith, read .before .before .if1 .left) in
+    let at = found .index .ensures in
     rw at (openable (p .1 .1) (p .0) (p .1 .0) k l more)
 
 same-length : tie.Need-same-length
@@ -95,13 +95,13 @@ returns-4 c =
     let found = same-left .before .before .before in
     let read = found .before .before in
     let start = read .before .before .before .before .before .before in
-    let p = start .pre in
+    let p = start .before .pre in
     let ground = p .1 .0 in
     let kept = p .1 .1 in
     let k = read .wide .result in
-    let l : k < start .args .rules = omega (arith, found .before .if2 .left) in
-    let more : start .args .form .next < length (start .args .list .now) = omega (arith, read .before .before .if1 .left) in
-    let at = found .index .ensures .0 (omega (arith, ground .few-rules)) in
+    let l : k < start .before .args .rules = omega (arith, found .before .if2 .left) in
+    let more : start .before .args .form .next < length (start .before .args .list .now) = omega (arith, read .before .before .if1 .left) in
+    let at = found .index .ensures in
     let same = rw at at (same-left .if3 .left) in
     let opened = rw at at (at-open-rule .open-rule .ensures) in (
       opens-bounded kept (p .0) ground k l more opened (search needs),

@@ -22,7 +22,7 @@ abbrev μ-loop : tie.MeasureT-loop
 
 loop-holds : tie.Need-loop-holds Inv-loop μ-loop
 loop-holds c =
-    let p = c .before .before .before .before .pre in
+    let p = c .before .before .before .before .before .pre in
     (kept-start (p .1 .0) (p .1 .1), refl, refl, λ g view. held-start g view _ _ _)
 
 pass-tokens-requires : tie.Need-pass-tokens-requires Inv-loop μ-loop
@@ -33,7 +33,7 @@ step-requires c κs =
     let past = c .before .before .before in
     let at-loop = past .before .before in
     let start = at-loop .before .before .before .before .before in
-    (start .pre .0, passes-kept (at-loop .loop .inv .0) (past .pass-tokens .ensures))
+    (start .before .pre .0, passes-kept (at-loop .loop .inv .0) (past .pass-tokens .ensures))
 
 enum-known-more : tie.Need-enum-known-more Inv-loop μ-loop
 enum-known-more c = search needs

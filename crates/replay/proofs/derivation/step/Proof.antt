@@ -28,8 +28,8 @@ same-length-2 c = search needs
 
 returns-2 : tie.Need-returns-2
 returns-2 c =
-    let kept = c .before .before .before .before .before .before .before .before .before .pre .1 in
-    let form = c .before .before .before .before .before .before .before .before .before .args .form in
+    let kept = c .before .before .before .before .before .before .before .before .before .before .pre .1 in
+    let form = c .before .before .before .before .before .before .before .before .before .before .args .form in
     let none : form .left ≡ 0 = omega (arith, c .before .before .before .before .if1 .left) in
     let some : 0 < form .depth = omega (arith, c .before .before .if2 .taken) in
     let e = c .above .ensures in
@@ -37,12 +37,12 @@ returns-2 c =
 
 returns-3 : tie.Need-returns-3
 returns-3 c =
-    let kept = c .before .before .before .before .before .before .before .before .before .pre .1 in
+    let kept = c .before .before .before .before .before .before .before .before .before .before .pre .1 in
     (tt, λ g n view below. nothing-stops kept g (omega arith) (omega arith) (omega arith))
 
 returns-4 : tie.Need-returns-4
 returns-4 c =
-    let kept = c .before .before .before .before .before .before .before .before .before .pre .1 in
+    let kept = c .before .before .before .before .before .before .before .before .before .before .pre .1 in
     (tt, λ g n view below. (refl, nothing-ends kept g (omega arith) (omega arith) (omega arith)))
 
 pub step-spec : {M : Type 1} → statement M

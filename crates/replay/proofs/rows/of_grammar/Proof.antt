@@ -6,10 +6,10 @@ use Rattle.replay.proofs.rows.of_grammar.Statement.{statement}
 use Rattle.replay.proofs.rows.of_grammar.Tie as tie
 
 returns : tie.Need-returns
-returns c = row-12 (c .before .before .before .before .pre .1 .is) (omega arith)
+returns c = row-12 (c .before .before .before .before .before .pre .1 .is) (omega arith)
 
 of-few-requires : tie.Need-of-few-requires
-of-few-requires c κs = (c .before .before .before .before .before .before .pre, omega (arith, c .before .if2 .taken))
+of-few-requires c κs = (c .before .before .before .before .before .before .before .pre, omega (arith, c .before .if2 .taken))
 
 same-length : tie.Need-same-length
 same-length c = search needs
@@ -20,7 +20,7 @@ returns-2 c = search needs
 of-some-requires : tie.Need-of-some-requires
 of-some-requires c κs =
     let start = c .before .before .before .before .before .before .before in
-    (start .pre, omega (arith, c .before .if3 .taken))
+    (start .before .pre, omega (arith, c .before .if3 .taken))
 
 same-length-2 : tie.Need-same-length-2
 same-length-2 c = search needs
@@ -31,7 +31,7 @@ returns-3 c = search needs
 of-many-requires : tie.Need-of-many-requires
 of-many-requires c κs =
     let some = c .before .before .before in
-    (some .before .before .before .before .pre, omega (arith, some .if1 .left))
+    (some .before .before .before .before .before .pre, omega (arith, some .if1 .left))
 
 same-length-3 : tie.Need-same-length-3
 same-length-3 c = search needs

@@ -9,7 +9,7 @@ use Rattle.replay.proofs.rows.of_list.Tie as tie
 
 run-requires : tie.Need-run-requires
 run-requires c κs =
-    let ((g, view), (few, room)) = c .before .before .before .before .before .before .before .pre in
+    let ((g, view), (few, room)) = c .before .before .before .before .before .before .before .before .pre in
     (ground view few, (three-words view, room))
 
 enum-known-place : tie.Need-enum-known-place
@@ -27,7 +27,7 @@ same-length-2 c = search needs
 returns : tie.Need-returns
 returns c =
     let ran = c .before .before .before .before .before .before .before .before in
-    let ((g, view), (few, room)) = ran .before .before .before .before .before .before .before .before .pre in
+    let ((g, view), (few, room)) = ran .before .before .before .before .before .before .before .before .before .pre in
     answers-3 view few (ran .run .ensures g view) (c .before .before .tokens .given .1) (omega arith) refl
 
 copy-front-requires : tie.Need-copy-front-requires
@@ -48,14 +48,14 @@ returns-2 c =
     let fits = copied .before .before .before in
     let counted = fits .before .before .before in
     let ran = counted .before .before .before .before .before .before in
-    let ((g, view), (few, room)) = ran .before .before .before .before .before .before .before .before .pre in
+    let ((g, view), (few, room)) = ran .before .before .before .before .before .before .before .before .before .pre in
     answers-aside view few (ran .run .ensures g view) (counted .tokens .given .1) (omega (arith, fits .if2 .taken))
     (omega (arith, fits .before .if1 .left)) (copied .copy-front .ensures) refl
 
 run-requires-2 : tie.Need-run-requires-2
 run-requires-2 c κs =
     let ran = c .before .before .before .before .before .before .before .before .before .before .before in
-    let ((g, view), (few, room)) = ran .before .before .before .before .before .before .before .before .pre in
+    let ((g, view), (few, room)) = ran .before .before .before .before .before .before .before .before .before .pre in
     (ground view few, (three-words view, search needs))
 
 same-length-6 : tie.Need-same-length-6
@@ -67,7 +67,7 @@ same-length-7 c = search needs
 returns-3 : tie.Need-returns-3
 returns-3 c =
     let ran = c .before .before .before .before .before .before .before in
-    let ((g, view), (few, room)) = ran .before .before .before .before .before .before .before .before .pre in
+    let ((g, view), (few, room)) = ran .before .before .before .before .before .before .before .before .before .pre in
     answers-11 view few (ran .run .ensures g view) (c .before .place .given .1) refl
 
 same-length-8 : tie.Need-same-length-8
@@ -85,7 +85,7 @@ returns-4 c =
     let other = written .before .before .before in
     let counted = other .before .before .before in
     let ran = counted .before .before .before .before .before .before in
-    let ((g, view), (few, room)) = ran .before .before .before .before .before .before .before .before .pre in
+    let ((g, view), (few, room)) = ran .before .before .before .before .before .before .before .before .before .pre in
     let first = ran .run .ensures g view in
     let second = written .run2 .ensures g view in
     answers-done view few first (counted .tokens .given .1) (omega (arith, other .before .if1 .left)) second refl

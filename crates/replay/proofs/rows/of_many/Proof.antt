@@ -12,7 +12,7 @@ slice-aggregate-of-list-2 c = search needs
 
 of-list-requires : tie.Need-of-list-requires
 of-list-requires c κs =
-    let p = c .before .before .before .before .before .before .pre in
+    let p = c .before .before .before .before .before .before .before .pre in
     (p .0, (p .1, omega (arith, p .1)))
 
 same-length : tie.Need-same-length

@@ -33,7 +33,7 @@ context-of-rule-requires c κs =
     let p = start .pre .0 in
     let (g, known) = start .pre .1 in
     let small : start .args .r < 256 = omega (arith, p .0, p .1 .0) in
-    let is = index .index .ensures .0 small in
+    let is = index .index .ensures in
     let long = p .1 .1 .1 in (
       (right .right .ensures .1, (left-room known (p .1 .0) long is (word .word .ensures), omega (arith, small, p .1 .1 .0))),
       known-room known long,
@@ -56,7 +56,7 @@ returns c =
     let small : start .args .r < 256 = omega (arith, p .0, p .1 .0) in (
       (omega arith, omega (arith, context-fallen (lowered .context-of-rule .ensures), c .if1 .taken)),
       λ g known.
-          context-alone known (p .1 .0) (p .1 .1 .1) (index .index .ensures .0 small) (word .word .ensures)
+          context-alone known (p .1 .0) (p .1 .1 .1) (index .index .ensures) (word .word .ensures)
           (right .right .ensures .0) refl (lowered .context-of-rule .ensures) (c .if1 .taken),
     )
 
@@ -94,7 +94,7 @@ returns-2 c =
     let first = context-fallen (lowered .context-of-rule .ensures) in (
       (omega arith, omega (arith, first, followed .follow-context .ensures .0, fell .if1 .left)),
       λ g known.
-          context-followed known (p .1 .0) (p .1 .1 .1) (index .index .ensures .0 small) (word .word .ensures)
+          context-followed known (p .1 .0) (p .1 .1 .1) (index .index .ensures) (word .word .ensures)
           (right .right .ensures .0) refl (lowered .context-of-rule .ensures) (followed .follow-context .ensures .1 g known),
     )
 

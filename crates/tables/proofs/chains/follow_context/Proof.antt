@@ -48,7 +48,7 @@ context-of-rule-requires c κs =
     let start = at .before .before .before .before .before .before in
     let (g, known) = start .pre .1 in
     let small : at .loop .r < 256 = omega arith in
-    let is = index .index .ensures .0 small in
+    let is = index .index .ensures in
     let long : 128 ≤ length (at .loop .contexts) = omega (arith, at .loop .inv .0) in (
       (right .right .ensures .1, (left-room known (omega arith) long is (word .word .ensures), omega (arith, at .loop .inv .1))),
       known-room known long,
@@ -72,7 +72,7 @@ returns c =
       omega (arith, at .loop .inv .2, context-fallen (lowered .context-of-rule .ensures)),
       λ g known stands.
           context-kept known (index .before .loop-test .taken) (omega (arith, p .1 .1, at .loop .inv .0))
-          (index .index .ensures .0 small) (word .word .ensures) (right .right .ensures .0) refl
+          (index .index .ensures) (word .word .ensures) (right .right .ensures .0) refl
           (lowered .context-of-rule .ensures) (at .loop .inv .3 g known stands),
     )
 
@@ -101,7 +101,7 @@ loop-again c =
       omega (arith, at .loop .inv .2, context-fallen (lowered .context-of-rule .ensures)),
       λ g known stands.
           context-kept known (index .before .loop-test .taken) (omega (arith, p .1 .1, at .loop .inv .0))
-          (index .index .ensures .0 small) (word .word .ensures) (right .right .ensures .0) refl
+          (index .index .ensures) (word .word .ensures) (right .right .ensures .0) refl
           (lowered .context-of-rule .ensures) (at .loop .inv .3 g known stands),
     )
 

@@ -8,7 +8,7 @@ use Rattle.grammar.specs.Words.{Grammar}
 use Rattle.tables.specs.Figures.{weight, LeastsSound}
 use Rattle.layout.specs.View.{View}
 use Rattle.tables.proofs.LeastRounds.{step-fallen, least-kept}
-use Rattle.tables.proofs.RulesInside.{left-within, nonterminals-within}
+use Rattle.layout.proofs.RulesInside.{left-within, nonterminals-within}
 use borrow.Author.Needs.{needs}
 use Rattle.tables.proofs.chains.follow_least.Statement.{statement}
 use Rattle.tables.proofs.chains.follow_least.Tie as tie
@@ -42,7 +42,7 @@ lower-least-requires c κs =
     let few = index .before .before .before .before .before .before .pre .0 in
     let below = index .before .loop-test .taken in
     let low : loop .r < 256 = omega (arith, below, few) in
-    let at = index .index .ensures .0 low in
+    let at = index .index .ensures in
     let (g, view) = index .before .before .before .before .before .before .pre .1 in
     let room : 128 ≤ length (loop .leasts) = omega (arith, few, loop .inv .0) in
     (search needs, rw (word .word .ensures) (left-within view below at room), nonterminals-within view room)
@@ -60,7 +60,7 @@ returns c =
     let few = index .before .before .before .before .before .before .pre .0 in
     let below = index .before .loop-test .taken in
     let low : loop .r < 256 = omega (arith, below, few) in
-    let at = index .index .ensures .0 low in (
+    let at = index .index .ensures in (
       omega (arith, loop .inv .1, step-fallen (lowered .lower-least .ensures)),
       λ g view sound.
           least-kept view below (omega (arith, few, loop .inv .0)) at (word .word .ensures) (right .right .ensures .0)
@@ -83,7 +83,7 @@ loop-again c =
     let few = index .before .before .before .before .before .before .pre .0 in
     let below = index .before .loop-test .taken in
     let low : loop .r < 256 = omega (arith, below, few) in
-    let at = index .index .ensures .0 low in (
+    let at = index .index .ensures in (
       search needs,
       omega (arith, loop .inv .1, step-fallen (lowered .lower-least .ensures)),
       λ g view sound.

@@ -3,7 +3,7 @@
 use Prim.Native.Nat.{_<_}
 use native.Mathlib.Omega.{arith}
 use Rattle.tables.proofs.LeastRounds.{step-fallen, least-alone, least-followed}
-use Rattle.tables.proofs.RulesInside.{left-within, nonterminals-within}
+use Rattle.layout.proofs.RulesInside.{left-within, nonterminals-within}
 use borrow.Author.Needs.{needs}
 use Rattle.tables.proofs.chains.least_turn.Statement.{statement}
 use Rattle.tables.proofs.chains.least_turn.Tie as tie
@@ -24,7 +24,7 @@ lower-least-requires c κs =
     let index = word .before in
     let p = index .before .before .before .before .pre in
     let low : index .before .before .before .before .args .r < 256 = omega (arith, p .0) in
-    let at = index .index .ensures .0 low in
+    let at = index .index .ensures in
     let (g, view) = p .1 in
     let room = p .0 .1 .1 in
     (search needs, rw (word .word .ensures) (left-within view (p .0 .1 .0) at room), nonterminals-within view room)
@@ -40,7 +40,7 @@ returns c =
     let index = word .before in
     let p = index .before .before .before .before .pre in
     let low : index .before .before .before .before .args .r < 256 = omega (arith, p .0) in
-    let at = index .index .ensures .0 low in (
+    let at = index .index .ensures in (
       (omega arith, omega (arith, step-fallen (lowered .lower-least .ensures), c .if1 .taken)),
       λ g view.
           least-alone view (p .0 .1 .0) (p .0 .1 .1) at (word .word .ensures) (right .right .ensures .0)
@@ -66,7 +66,7 @@ returns-2 c =
     let index = word .before in
     let p = index .before .before .before .before .pre in
     let low : index .before .before .before .before .args .r < 256 = omega (arith, p .0) in
-    let at = index .index .ensures .0 low in
+    let at = index .index .ensures in
     let first = step-fallen (lowered .lower-least .ensures) in (
       (omega arith, omega (arith, first, followed .follow-least .ensures .0, fell .if1 .left)),
       λ g view.

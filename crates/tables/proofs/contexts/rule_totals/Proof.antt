@@ -63,7 +63,7 @@ loop-again c =
     let at = c .before .before .before in
     let loop = at .before .before .before .before in
     let a = loop .before .before .before .before .args in
-    let index = at .before .before .index .ensures .0 (omega arith) in
+    let index = at .before .before .index .ensures in
     let left = at .before .word .ensures ∙ ap (λ (p : ℕ). getD (a .words .now) p 0) index in
     let context = at .figure-at .ensures .0 ∙ ap (figure (a .contexts .now)) left in (
       omega arith,

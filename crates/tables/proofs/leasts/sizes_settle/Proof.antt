@@ -7,7 +7,7 @@ use lib.ListN.{length}
 use Rattle.grammar.specs.Words.{Grammar}
 use Rattle.layout.specs.View.{View}
 use Rattle.tables.specs.LeastSteps.{Settled}
-use Rattle.tables.proofs.RulesInside.{inside, left-within, nonterminals-within}
+use Rattle.layout.proofs.RulesInside.{inside, left-within, nonterminals-within}
 use Rattle.tables.proofs.RuleSizes.{settled-more, unsettled}
 use native.Mathlib.Omega.{arith}
 use borrow.Author.Needs.{needs}
@@ -32,14 +32,14 @@ mul-size-settles : tie.Need-mul-size-settles Inv-loop μ-loop
 mul-size-settles c =
     let start = c .before .before .before .before .before .before in
     let low : c .before .before .loop .r < 256 = omega arith in
-    let within = inside (start .pre .1 .1) (omega arith) (c .index .ensures .0 low) in
+    let within = inside (start .pre .1 .1) (omega arith) (c .index .ensures) in
     search needs
 
 shared-slice-read-size-settles : tie.Need-shared-slice-read-size-settles Inv-loop μ-loop
 shared-slice-read-size-settles c =
     let start = c .before .before .before .before .before .before .before in
     let low : c .before .before .before .loop .r < 256 = omega arith in
-    inside (start .pre .1 .1) (omega arith) (c .before .index .ensures .0 low)
+    inside (start .pre .1 .1) (omega arith) (c .before .index .ensures)
 
 cast-size-settles : tie.Need-cast-size-settles Inv-loop μ-loop
 cast-size-settles c = omega (arith, c .shared-slice-known3 .given (c .before .index .result))
@@ -52,7 +52,7 @@ size-settles-requires c κs =
     let read = c .before .before in
     let start = read .before .before .before .before .before .before .before in
     let low : read .before .before .before .loop .r < 256 = omega arith in
-    let at = read .before .index .ensures .0 low in
+    let at = read .before .index .ensures in
     let view = start .pre .1 .1 in
     let room = start .pre .0 .1 in
     ((search needs, left-within view (omega arith) at room, nonterminals-within view room), omega arith)
@@ -68,7 +68,7 @@ returns c g view =
     let below = index .before .loop-test .taken in
     let few = index .before .before .before .before .before .before .pre .0 .0 in
     let low : index .before .before .loop .r < 256 = omega (arith, below, few) in
-    let at = index .index .ensures .0 low in
+    let at = index .index .ensures in
     unsettled view at (right .right .ensures .0) (omega (arith, below)) (settled .size-settles .ensures) (c .if1 .taken)
 
 add-r : tie.Need-add-r Inv-loop μ-loop
@@ -86,7 +86,7 @@ loop-again c =
     let below = index .before .loop-test .taken in
     let few = index .before .before .before .before .before .before .pre .0 in
     let low : loop .r < 256 = omega (arith, below, few) in
-    let at = index .index .ensures .0 low in (
+    let at = index .index .ensures in (
       omega arith,
       search needs,
       λ g view.

@@ -1,0 +1,91 @@
+-- `tables::passes::size_passes` meets its contract: the loop's invariant is `Summed`. The measure is what is left of the length.
+-- Assumes nothing.
+use Prim.Native.Nat.{_≤_, _-_}
+use native.Mathlib.Omega.{arith}
+use mathlib.Core.Logic.{⊎-elim}
+use borrow.Author.Needs.{needs}
+use lib.ListN.{length}
+use Rattle.table_test.proofs.Telling.{told, refuted}
+use Rattle.table_test.proofs.PlacesSummed.{Summed, summed-none, summed-nonterminal, summed-terminal, summed-all, place-fails}
+use Rattle.table_test.proofs.passes.size_passes.Statement.{statement}
+use Rattle.table_test.proofs.passes.size_passes.Tie as tie
+
+abbrev Inv-loop : tie.InvT-loop
+Inv-loop symbols n number total table sum₀ i₀ sum i = (i ≤ length symbols) × Summed table n number total symbols i sum
+
+abbrev μ-loop : tie.MeasureT-loop
+μ-loop symbols n number total table sum₀ i₀ sum i = length symbols - i
+
+loop-holds : tie.Need-loop-holds Inv-loop μ-loop
+loop-holds c = (omega arith, summed-none)
+
+mul-s : tie.Need-mul-s Inv-loop μ-loop
+mul-s c = search needs
+
+shared-slice-read-s : tie.Need-shared-slice-read-s Inv-loop μ-loop
+shared-slice-read-s c = search needs
+
+cast-s : tie.Need-cast-s Inv-loop μ-loop
+cast-s c = omega (arith, c .shared-slice-known3 .given (c .before .before .loop .i))
+
+place-passes-requires : tie.Need-place-passes-requires Inv-loop μ-loop
+place-passes-requires c κs = search needs
+
+returns : tie.Need-returns Inv-loop μ-loop
+returns c =
+    let p = c .before .place-passes in
+    let fails = refuted (p .result) (p .ensures) (c .if2 .taken) in
+    (place-fails (omega arith) (omega arith) fails, omega arith)
+
+five-requires : tie.Need-five-requires Inv-loop μ-loop
+five-requires c κs = search needs
+
+add-sum : tie.Need-add-sum Inv-loop μ-loop
+add-sum c = omega (arith, c .before .before .before .before .before .before .loop .inv .1 .small, c .five .ensures .1)
+
+add-sum-2 : tie.Need-add-sum-2 Inv-loop μ-loop
+add-sum-2 c = omega (arith, c .before .before .before .loop .inv .1 .small)
+
+add-i : tie.Need-add-i Inv-loop μ-loop
+add-i c = search needs
+
+loop-less : tie.Need-loop-less Inv-loop μ-loop
+loop-less c = search needs
+
+loop-again : tie.Need-loop-again Inv-loop μ-loop
+loop-again c =
+    let z = c .before .before .before .loop .inv .1 in (
+      omega arith,
+      ⊎-elim
+          (λ (if1, p, if2, five, sum).
+          rw sum
+          (summed-nonterminal (omega arith) z (five .result) (five .ensures .0) (five .ensures .1) (if1 .taken)
+          (told (p .result) (p .ensures) (if2 .left))))
+          (λ (if1, sum). rw sum (summed-terminal (omega arith) z (if1 .left)))
+          (c .if1 .came),
+    )
+
+returns-2 : tie.Need-returns-2 Inv-loop μ-loop
+returns-2 c =
+    let z = c .before .loop .inv .1 in
+    (summed-all (omega arith) z, omega (arith, z .small))
+
+pub size-passes-spec : {M : Type 1} → statement M
+size-passes-spec =
+    tie.close
+    (tie.spec
+    Inv-loop
+    μ-loop
+    loop-holds
+    mul-s
+    shared-slice-read-s
+    cast-s
+    place-passes-requires
+    returns
+    five-requires
+    add-sum
+    add-sum-2
+    add-i
+    loop-less
+    loop-again
+    returns-2)
