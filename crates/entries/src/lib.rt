@@ -12,6 +12,9 @@ use cells::wide;
 // The most words of a table: those of 128 nonterminals and 256 rules.
 pub const MOST_WORDS: usize = 896;
 
+// The largest total that is accepted.
+pub const LIMIT: usize = 4096;
+
 // Stands for the context rule and the place of the start, which has none.
 pub const NO_CHOICE: u16 = 65535;
 
