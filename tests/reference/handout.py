@@ -27,8 +27,8 @@ nothing is written, has its old content. `again` says that the replay of the der
 import functools
 import sys
 
-from tables import (D, Refused, chain, doubled, doublings, drawn, fullest, grammar, many_of, read, shuffled, spelled, sum_of,
-                    table_of, wrapping)
+from tables import (D, Refused, chain, doubled, doublings, drawn, fullest, grammar, many_of, print_asked, read, shuffled, spelled,
+                    sum_of, table_of, wrapping)
 
 MOST_NUMBERS = 4096
 MOST_RULES = 256
@@ -524,14 +524,5 @@ def texts():
         yield f'{head} {spelled(words)}', lambda: '\n'.join([head] + night_answered(words))
 
 
-def main(wanted):
-    if wanted == 'stdin':
-        print('# Written by tests/reference/handout.py, which says what a line means and has a remark on each case.')
-    for case, answer in texts():
-        print((case if wanted == 'stdin' else answer()).rstrip())
-
-
 if __name__ == '__main__':
-    if sys.argv[1:] not in (['stdin'], ['stdout']):
-        sys.exit('usage: handout.py stdin | stdout')
-    main(sys.argv[1])
+    print_asked(texts())

@@ -17,6 +17,7 @@ WORDS are numbers, and N*W stands for N times W. The table buffer has ROOM words
 TEST is what `test` says of the words and the buffer afterwards: its RULES, not its, or refused NUMBER PLACE, for 4 to 7. `alone`
 says that it answers `not its` for each table that has one word larger by one.
 """
+import pathlib
 import sys
 
 MOST_NONTERMINALS = 128
@@ -445,17 +446,23 @@ def answered(words, room):
         return f'refused {number} {place} kept {tested}'
 
 
-def main(wanted):
-    if wanted == 'stdin':
-        print('# Written by tests/reference/tables.py, which says what a line means and has a remark on each case.')
+def texts():
+    """Each case's line, and what works out its answer."""
     for name, words, room in cases():
-        if wanted == 'stdin':
-            print(f'{room} {name} : {spelled(words)}'.rstrip())
-        else:
-            print(f'{room} {name} : {answered(words, room)}')
+        head = f'{room} {name} :'
+        yield f'{head} {spelled(words)}', lambda: f'{head} {answered(words, room)}'
+
+
+def print_asked(texts):
+    """Prints what the program's one argument asks for: the cases, or the answers."""
+    program = pathlib.Path(sys.argv[0]).name
+    if sys.argv[1:] not in (['stdin'], ['stdout']):
+        sys.exit(f'usage: {program} stdin | stdout')
+    if sys.argv[1] == 'stdin':
+        print(f'# Written by tests/reference/{program}, which says what a line means and has a remark on each case.')
+    for case, answer in texts:
+        print((case if sys.argv[1] == 'stdin' else answer()).rstrip())
 
 
 if __name__ == '__main__':
-    if sys.argv[1:] not in (['stdin'], ['stdout']):
-        sys.exit('usage: tables.py stdin | stdout')
-    main(sys.argv[1])
+    print_asked(texts())

@@ -22,7 +22,7 @@ pub use number::wide;
 // More octets than any program has on standard input.
 pub const MOST_TEXT: usize = 262144;
 
-// All of standard input, read into a lent buffer. Where that is filled, there may be more: then a line says so, and there are no cases.
+// All of standard input, read into a lent buffer. Where that is filled there may be more: then a line says so, and nothing is read.
 pub fn read(buffer: &mut [u8]) -> &[u8] {
     let length = io::read_full(libc::STDIN_FILENO, buffer);
     let whole = &buffer[..];
@@ -43,7 +43,8 @@ pub fn first_case(text: &[u8]) -> &[u8] {
     &line[0..end]
 }
 
-// The lines after the first.
+// The lines after the first. A loop lays them in a local of the turn, and then in its own: the borrow checker covers no call whose
+// result replaces a reference.
 pub fn later_lines(text: &[u8]) -> &[u8]
     ensures { λ r. ⌜ length (now r) ≤ length (now (text .entry)) - 1 ⌝ }
 {

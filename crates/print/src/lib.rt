@@ -13,6 +13,7 @@ pub fn number(n: usize) {
     io::print_decimal(STDOUT_FILENO, n as u64);
 }
 
+// The word as a number.
 pub fn word(w: u16) {
     number(w as usize);
 }
