@@ -1,7 +1,7 @@
 -- What is answered of a table's choices: the words at the index of the rule that a choice names are that rule; where it is a rule
 -- of the nonterminal, or holds it at the place, the choice passes exactly if its total is the least and the context.
 -- Assumes nothing.
-use Prim.Native.Nat.{ℕ, _+_, _*_, _<_}
+use Prim.Native.Nat.{ℕ, _+_, _<_}
 use mathlib.Core.Path.{_≡_, ap, sym, _∙_}
 use mathlib.Core.Logic.{_↔_}
 use mathlib.Core.List.{List}
@@ -23,7 +23,7 @@ module _ {ws places : List ℕ} {n rules : ℕ} {g : Grammar} (view : View ws pl
     pub chosen-left : ChosenPasses g table a → left view k ≡ a
     chosen-left p = rw is (read-left view (p .rule))
 
-    pub chosen-answered : (x y : ℕ) → x ≡ getD table (5 * n + k) 0 → y ≡ leastIn table a + contextIn table a → k < rules →
+    pub chosen-answered : (x y : ℕ) → x ≡ totalIn n table k → y ≡ leastIn table a + contextIn table a → k < rules →
         left view k ≡ a → Says (eqb x y) (ChosenPasses g table a)
     chosen-answered x y ex ey l same =
         let total = ex ∙ read-total view table k ∙ ap (totalIn (g .N) table) is in
@@ -47,7 +47,7 @@ module _ {ws places : List ℕ} {n rules : ℕ} {g : Grammar} (view : View ws pl
     pub context-symbol : ContextPasses g table a → getD symbols i 0 ≡ a
     context-symbol p = held-there symbols i a (context-holds p)
 
-    pub context-answered : (x y : ℕ) → x ≡ getD table (5 * n + k) 0 → y ≡ leastIn table a + contextIn table a → k < rules →
+    pub context-answered : (x y : ℕ) → x ≡ totalIn n table k → y ≡ leastIn table a + contextIn table a → k < rules →
         i < length symbols → getD symbols i 0 ≡ a → Says (eqb x y) (ContextPasses g table a)
     context-answered x y ex ey l there same =
         let total = ex ∙ read-total view table k ∙ ap (totalIn (g .N) table) is in

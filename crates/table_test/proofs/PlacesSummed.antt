@@ -13,7 +13,8 @@ use Rattle.grammar.specs.Terms.{measure}
 use Rattle.grammar.specs.Certificates.{symbolSize, wordSize, Holds}
 use Rattle.grammar.proofs.Certificate.{symbol-nonterminal, symbol-terminal}
 use Rattle.grammar.proofs.ContextsExist.{holds-below}
-use Rattle.table_test.specs.Passes.{PlacePasses, leastIn, sizeIn, SizePasses, one-fails, all-pass}
+use Rattle.entries.specs.Table.{leastIn}
+use Rattle.table_test.specs.Passes.{PlacePasses, sizeIn, SizePasses, one-fails, all-pass}
 use Rattle.table_test.proofs.SymbolsHeld.{holds-there, held-there}
 
 module _ (table : List ℕ) (n k t : ℕ) (w : List ℕ) where

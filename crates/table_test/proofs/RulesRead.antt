@@ -1,6 +1,6 @@
--- What the functions that view the words read of a grammar: at the index of rule k they read rule k, and past the five words of
--- each nonterminal its total. So what is answered of the words at an index is answered of a rule. Assumes nothing.
-use Prim.Native.Nat.{ℕ, _+_, _*_, _≤_, _<_}
+-- What the functions that view the words read of a grammar: at the index of rule k they read rule k. So what is answered of the words
+-- at an index is answered of a rule. Assumes nothing.
+use Prim.Native.Nat.{ℕ, _≤_, _<_}
 use native.Mathlib.Omega.{arith}
 use mathlib.Core.Path.{_≡_, refl, ap, _∙_}
 use mathlib.Core.Logic.{_↔_}
@@ -42,11 +42,11 @@ module _ {ws places : List ℕ} {n rules : ℕ} {g : Grammar} (view : View ws pl
       let (A, w, r) = rule-at bounds k (omega (arith, view .all-rules)) in
       rw (read-left r, read-right r) r
 
-  pub read-total : (table : List ℕ) (k : ℕ) → getD table (5 * n + k) 0 ≡ totalIn (g .N) table k
-  read-total table k = ap (λ (m : ℕ). getD table (5 * m + k) 0) (view .nonterminals)
+  pub read-total : (table : List ℕ) (k : ℕ) → totalIn n table k ≡ totalIn (g .N) table k
+  read-total table k = ap (λ (m : ℕ). totalIn m table k) (view .nonterminals)
 
   -- what is answered of the words is answered of the rule
-  pub rule-answered : (table : List ℕ) (k t : ℕ) → t ≡ getD table (5 * n + k) 0 → k < rules → (b : Bool) →
+  pub rule-answered : (table : List ℕ) (k t : ℕ) → t ≡ totalIn n table k → k < rules → (b : Bool) →
       Says b (RulePasses g table k t (left k) (right k)) →
       Says b ((A : ℕ) (w : List ℕ) → RuleAt g k A w → RulePasses g table k (totalIn (g .N) table k) A w)
   rule-answered table k t e l b = says-same b (to, from)

@@ -20,58 +20,49 @@ use Rattle.grammar.proofs.Unique.{total-unique}
 use Rattle.grammar.specs.Certificates.{wordSize, Holds, othersSize, AreFigures, FigureCertificate}
 use Rattle.grammar.proofs.Certificate.{symbol-nonterminal}
 use Rattle.grammar.proofs.FigureCertificate.{figure-certificate}
-use Rattle.entries.specs.Table.{tableLength, leastIn, chosenIn, contextIn, ruleIn, placeIn, totalIn, HasTable, Own}
-use Rattle.table_test.specs.Passes.{PlacePasses, leastIn, sizeIn, StartPasses, TablePasses}
+use Rattle.entries.specs.Table.{tableLength, leastIn, chosenIn, contextIn, ruleIn, placeIn, totalIn, noChoice, HasTable, Own}
 use Rattle.entries.specs.TableCertificates.{figuresOf}
-use Rattle.entries.proofs.TablePlaces.{entry-front, total-front}
-
--- the sizes of symbols are the figure of a nonterminal among them and the sizes beside it
-module _ (g : Grammar) (v : ℕ → ℕ) where
-  size-parted : (w : List ℕ) (i A : ℕ) → Holds w i A → A < g .N → wordSize measure g v w ≡ v A + othersSize measure g v w i
-  unfolding wordSize othersSize
-  size-parted [] i A h lt = absurd (none-not-some h)
-  size-parted (s ∷ w) zero A h lt =
-      let same : s ≡ A = cc in
-      rw same (omega (arith, symbol-nonterminal measure g v A lt))
-  size-parted (s ∷ w) (suc i) A h lt = omega (arith, size-parted w i A h lt)
+use Rattle.entries.proofs.TablePlaces.{least-front, chosen-front, context-front, rule-front, place-front, total-front}
+use Rattle.entries.proofs.SizeApart.{size-apart}
+use Rattle.table_test.specs.Passes.{PlacePasses, sizeIn, StartPasses, TablePasses}
 
 module _ (g : Grammar) (ok : InBounds g) (table : List ℕ) where
   -- the table is the grammar's, in the figures that all of its words give
-  record Own : Type 0 where
+  record AllOwn : Type 0 where
     long : tableLength g ≤ length table
     figures : AreFigures measure g (figuresOf g table)
-    start-rule : ruleIn table (g .start) ≡ 65535
-    start-place : placeIn table (g .start) ≡ 65535
+    start-rule : ruleIn table (g .start) ≡ noChoice
+    start-place : placeIn table (g .start) ≡ noChoice
 
-  has-own : HasTable g table → Own
+  has-own : HasTable g table → AllOwn
   has-own t = record {
     long = omega (arith, t .long, length-take (tableLength g) table);
     figures = record {
-      leasts = λ A lt. rw (entry-front g table A 0 lt (omega arith)) at (t .leasts A lt);
-      chosens = λ A lt. rw (entry-front g table A 1 lt (omega arith)) at (t .chosen A lt);
-      contexts = λ A lt. rw (entry-front g table A 2 lt (omega arith)) at (t .contexts A lt);
-      choices = λ A lt d. rw (entry-front g table A 3 lt (omega arith), entry-front g table A 4 lt (omega arith)) at (t .choices A lt d);
+      leasts = λ A lt. rw (least-front g table A lt) at (t .leasts A lt);
+      chosens = λ A lt. rw (chosen-front g table A lt) at (t .chosen A lt);
+      contexts = λ A lt. rw (context-front g table A lt) at (t .contexts A lt);
+      choices = λ A lt d. rw (rule-front g table A lt, place-front g table A lt) at (t .choices A lt d);
       totals = λ r l. rw (total-front g table r l) at (t .totals r l);
     };
-    start-rule = sym (entry-front g table (g .start) 3 (ok .start-below) (omega arith)) ∙ t .start-rule;
-    start-place = sym (entry-front g table (g .start) 4 (ok .start-below) (omega arith)) ∙ t .start-place;
+    start-rule = sym (rule-front g table (g .start) (ok .start-below)) ∙ t .start-rule;
+    start-place = sym (place-front g table (g .start) (ok .start-below)) ∙ t .start-place;
   }
 
-  own-has : Own → HasTable g table
+  own-has : AllOwn → HasTable g table
   own-has o = record {
     long = omega (arith, o .long, length-take (tableLength g) table);
-    leasts = λ A lt. rw (entry-front g table A 0 lt (omega arith)) (o .figures .leasts A lt);
-    chosen = λ A lt. rw (entry-front g table A 1 lt (omega arith)) (o .figures .chosens A lt);
-    contexts = λ A lt. rw (entry-front g table A 2 lt (omega arith)) (o .figures .contexts A lt);
+    leasts = λ A lt. rw (least-front g table A lt) (o .figures .leasts A lt);
+    chosen = λ A lt. rw (chosen-front g table A lt) (o .figures .chosens A lt);
+    contexts = λ A lt. rw (context-front g table A lt) (o .figures .contexts A lt);
     choices = λ A lt d.
-        rw (entry-front g table A 3 lt (omega arith), entry-front g table A 4 lt (omega arith)) (o .figures .choices A lt d);
-    start-rule = entry-front g table (g .start) 3 (ok .start-below) (omega arith) ∙ o .start-rule;
-    start-place = entry-front g table (g .start) 4 (ok .start-below) (omega arith) ∙ o .start-place;
+        rw (rule-front g table A lt, place-front g table A lt) (o .figures .choices A lt d);
+    start-rule = rule-front g table (g .start) (ok .start-below) ∙ o .start-rule;
+    start-place = place-front g table (g .start) (ok .start-below) ∙ o .start-place;
     totals = λ r l. rw (total-front g table r l) (o .figures .totals r l);
   }
 
-  -- a grammar that has a table is accepted where no total is above 4,096
-  own-accepted : Own → ((r : ℕ) → r < R g → totalIn (g .N) table r ≤ limit) → Accepted limit g
+  -- a grammar that has a table is accepted where no total is above the limit
+  own-accepted : AllOwn → ((r : ℕ) → r < R g → totalIn (g .N) table r ≤ limit) → Accepted limit g
   own-accepted o fit = record {
     trees = λ A lt. o .figures .leasts A lt .tree;
     reached = λ A lt. open-reached (o .figures .contexts A lt .tree);
@@ -80,7 +71,7 @@ module _ (g : Grammar) (ok : InBounds g) (table : List ℕ) where
 
   parted : (w : List ℕ) (i A : ℕ) → Holds w i A → A < g .N →
       wordSize measure g (leastIn table) w ≡ leastIn table A + othersSize measure g (leastIn table) w i
-  parted = size-parted g (leastIn table)
+  parted = size-apart g (leastIn table)
 
   module _ (t : TablePasses g table) where
     start : StartPasses table (g .start)
@@ -108,7 +99,7 @@ module _ (g : Grammar) (ok : InBounds g) (table : List ℕ) where
       totals = λ r A w at. sym (t .rules r A w at .left .total);
     }
 
-    passed-own : Own
+    passed-own : AllOwn
     passed-own = record {
       long = t .long;
       figures = figure-certificate measure g (figuresOf g table) ok .0 certificate;
@@ -116,7 +107,7 @@ module _ (g : Grammar) (ok : InBounds g) (table : List ℕ) where
       start-place = start .place;
     }
 
-  module _ (accepted : Accepted limit g) (o : Own) where
+  module _ (accepted : Accepted limit g) (o : AllOwn) where
     cert : FigureCertificate measure g (figuresOf g table)
     cert = figure-certificate measure g (figuresOf g table) ok .1 (o .figures)
 
@@ -171,14 +162,14 @@ module _ (g : Grammar) (ok : InBounds g) (table : List ℕ) where
     }
 
   -- EXACT, both ways
-  pub tests-exact : TablePasses g table ↔ (Accepted limit g × HasTable g table)
+  pub tests-exact : TablePasses g table ↔ Own table g
   tests-exact = (to, from)
     where
-      to : TablePasses g table → Accepted limit g × HasTable g table
+      to : TablePasses g table → Own table g
       to t =
           let fits : (r : ℕ) → r < R g → totalIn (g .N) table r ≤ limit = λ r l.
           let (A, w, at) = rule-at ok r l in t .rules r A w at .fits in
           (own-accepted (passed-own t) fits, own-has (passed-own t))
 
-      from : Accepted limit g × HasTable g table → TablePasses g table
+      from : Own table g → TablePasses g table
       from h = own-passed (h .0) (has-own (h .1))

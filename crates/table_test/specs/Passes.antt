@@ -1,4 +1,4 @@
--- For the private functions of passes: the tests of a lent table, each of single words of it and each of one rule or nonterminal.
+-- For the private functions of passes: the tests of a lent table, each of single entries of it and each of one rule or nonterminal.
 -- That they together say that the grammar is accepted and the table is its own is a law (proofs/TestsExact). Nobody has to
 -- believe this file; the promises do not cite it.
 -- Below, v A and u A are the least and the context that the table has for A.
@@ -13,7 +13,7 @@ use Rattle.grammar.specs.Words.{Grammar, RuleAt}
 use Rattle.grammar.specs.Terms.{measure, limit}
 use Rattle.layout.specs.Rules.{rightAt}
 use Rattle.grammar.specs.Certificates.{wordSize, Holds}
-use Rattle.entries.specs.Table.{tableLength, leastIn, chosenIn, contextIn, ruleIn, placeIn, totalIn}
+use Rattle.entries.specs.Table.{tableLength, leastIn, chosenIn, contextIn, ruleIn, placeIn, totalIn, noChoice}
 use Rattle.layout.specs.View.{View}
 
 -- a test's answer: it holds, or it does not
@@ -42,10 +42,7 @@ pub record LeftPasses (table : List ℕ) (A k x t : ℕ) : Type 0 where
   pub below : leastIn table A ≤ x
   pub first : leastIn table A ≡ x → chosenIn table A ≤ k
 
--- the leasts that the table has, and the size of a rule by them
-abbrev pub leastIn : List ℕ → ℕ → ℕ
-leastIn table A = leastIn table A
-
+-- the size of a rule by the leasts that the table has
 abbrev pub sizeIn : Grammar → List ℕ → List ℕ → ℕ
 sizeIn g table w = 1 + wordSize measure g (leastIn table) w
 
@@ -79,8 +76,8 @@ pub record ContextPasses (g : Grammar) (table : List ℕ) (A : ℕ) : Type 0 whe
 -- the context of A, which is the start, is 0, with no rule and no place
 pub record StartPasses (table : List ℕ) (A : ℕ) : Type 0 where
   pub context : contextIn table A ≡ 0
-  pub rule : ruleIn table A ≡ 65535
-  pub place : placeIn table A ≡ 65535
+  pub rule : ruleIn table A ≡ noChoice
+  pub place : placeIn table A ≡ noChoice
 
 -- the choices of A, where S is the start
 pub record ChoicePasses (g : Grammar) (S : ℕ) (table : List ℕ) (A : ℕ) : Type 0 where

@@ -1,75 +1,51 @@
-// Whether a lent table is a grammar's: one pass over the nonterminals and one over the rules, by tests of single words. No size
+// Whether a lent table is a grammar's: one pass over the nonterminals and one over the rules, by tests of single entries. No size
 // is worked out anew but a rule's, once, and nothing is taken off: the least and the context of a symbol come to at most the
 // total of each rule that names it, and where they come to as much the stored rule and place do not come after.
+// Of a table that is too short the entries that are missing are read as 0; the length is tested besides.
 ghost use mathlib.Core.Path.{_≡_};
-ghost use Prim.Native.Nat.{_+_, _*_, _≤_, _<_};
-ghost use lib.ListN.{length, getD};
+ghost use Prim.Native.Nat.{_+_, _*_, _≤_};
+ghost use lib.ListN.{length};
 ghost use Rattle.grammar.specs.Words.{Grammar};
-ghost use Rattle.grammar.specs.Refusals.{Accepted};
-ghost use Rattle.grammar.specs.Terms.{limit};
-ghost use Rattle.entries.specs.Table.{entry, HasTable};
+ghost use Rattle.entries.specs.Table.{Own};
 ghost use Rattle.layout.specs.View.{View};
 ghost use Rattle.table_test.specs.Passes.{Says, Answer, PlacePasses, SizePasses, LeftPasses, RuleAnswer, RulesPass};
 ghost use Rattle.table_test.specs.Passes.{ChosenPasses, ContextPasses, StartPasses, ChoicePasses, ChoicesPass};
+use cells::read;
+use cells::wide;
+use entries::LIMIT;
+use entries::NO_CHOICE;
 use layout::rules;
 
-// The largest total that is accepted.
-const LIMIT: usize = 4096;
-
-// Stands for the context rule and the place of the start.
-const NONE: usize = 65535;
-
-// The five words of a nonterminal.
-const LEAST: usize = 0;
-
-const CHOSEN: usize = 1;
-
-const CONTEXT: usize = 2;
-
-const RULE: usize = 3;
-
-const PLACE: usize = 4;
-
-// One of the five words of a.
-fn five(table: &[u16], a: usize, which: usize) -> usize
-    requires { ⌜ 5 * a + which < length (now table) ⌝ }
-    ensures { λ r. ⌜ r ≡ entry (now (table .entry)) a which ⌝ }
-    ensures { λ r. ⌜ r < 65536 ⌝ }
-{
-    table[5 * a + which] as usize
-}
-
 // Whether one place of a rule leaves the context of the symbol s right.
-fn place_passes(s: usize, number: usize, place: usize, total: usize, table: &[u16]) -> bool
-    requires { ⌜ 5 * s + 5 ≤ length (now table) ⌝ }
+fn place_passes(s: u16, number: u16, place: usize, total: usize, table: &[u16]) -> bool
     ensures { λ r. ⌜ Says r (PlacePasses (now (table .entry)) s number place total) ⌝ }
 {
-    let whole = five(table, s, LEAST) + five(table, s, CONTEXT);
+    let whole = entries::least(table, s) + entries::context(table, s);
     if whole != total {
         return whole < total;
     }
-    let chosen = five(table, s, RULE);
-    if chosen != number {
-        return chosen < number;
+    let by = entries::rule(table, s);
+    if by != number {
+        return by < number;
     }
-    five(table, s, PLACE) <= place
+    wide(entries::place(table, s)) <= place
 }
 
 // 1 and the sizes of a rule's symbols; 0 where one of its places does not pass.
-fn size_passes(symbols: &[u16], n: usize, number: usize, total: usize, table: &[u16]) -> usize
-    requires { ⌜ (length (now symbols) ≤ 65535) × (5 * n ≤ length (now table)) ⌝ }
+fn size_passes(symbols: &[u16], n: u16, number: u16, total: usize, table: &[u16]) -> usize
+    requires { ⌜ length (now symbols) ≤ 65535 ⌝ }
     ensures { λ r. ⌜ SizePasses (now (table .entry)) n number total (now (symbols .entry)) r ⌝ }
     ensures { λ r. ⌜ r ≤ 1 + 65535 * 65535 ⌝ }
 {
     let mut sum = 1;
     let mut i = 0;
     while i < symbols.len() {
-        let s = symbols[i] as usize;
+        let s = symbols[i];
         if s < n {
             if !place_passes(s, number, i, total, table) {
                 return 0;
             }
-            sum += five(table, s, LEAST);
+            sum += entries::least(table, s);
         } else {
             sum += 1;
         }
@@ -79,30 +55,22 @@ fn size_passes(symbols: &[u16], n: usize, number: usize, total: usize, table: &[
 }
 
 // Whether a rule of the size and the total leaves the least and the chosen rule of its left side right.
-fn left_passes(left: usize, number: usize, size: usize, total: usize, table: &[u16]) -> bool
-    requires { ⌜ (5 * left + 5 ≤ length (now table)) × (size ≤ 1 + 65535 * 65535) ⌝ }
+fn left_passes(left: u16, number: u16, size: usize, total: usize, table: &[u16]) -> bool
+    requires { ⌜ size ≤ 1 + 65535 * 65535 ⌝ }
     ensures { λ r. ⌜ Says r (LeftPasses (now (table .entry)) left number size total) ⌝ }
 {
-    if five(table, left, CONTEXT) + size != total {
+    if entries::context(table, left) + size != total {
         return false;
     }
-    let least = five(table, left, LEAST);
+    let least = entries::least(table, left);
     if least != size {
         return least < size;
     }
-    five(table, left, CHOSEN) <= number
+    entries::chosen(table, left) <= number
 }
 
 // Whether the rule at an index passes, as the rule of a number and a total.
-fn rule_passes(
-    words: &[u16],
-    at: usize,
-    n: usize,
-    number: usize,
-    total: usize,
-    table: &[u16],
-) -> bool
-    requires { ⌜ (at < length (now words)) × (getD (now words) at 0 < n) × (5 * n ≤ length (now table)) ⌝ }
+fn rule_passes(words: &[u16], at: usize, n: u16, number: u16, total: usize, table: &[u16]) -> bool
     ensures { λ r. ⌜ RuleAnswer (now (words .entry)) at n number total (now (table .entry)) r ⌝ }
 {
     if LIMIT < total {
@@ -112,23 +80,21 @@ fn rule_passes(
     if size == 0 {
         return false;
     }
-    left_passes(words[at] as usize, number, size, total, table)
+    left_passes(read(words, at), number, size, total, table)
 }
 
 // Whether every rule passes.
-fn rules_pass(words: &[u16], places: &[u16], n: usize, rules: usize, table: &[u16]) -> bool
-    requires { ⌜ (n ≤ 128) × (rules ≤ 256) × (5 * n + rules ≤ length (now table)) ⌝ }
-    requires { ⌜ ((g : Grammar) × View (now words) (now places) n rules g) ⌝ }
+fn rules_pass(words: &[u16], places: &[u16], n: u16, rules: u16, table: &[u16]) -> bool
     ensures { λ r. ⌜ Answer (now (words .entry)) (now (places .entry)) n rules (λ g. RulesPass g (now (table .entry))) r ⌝ }
 {
     let mut r = 0;
     while r < rules {
         if !rule_passes(
             words,
-            rules::index(places, r),
+            rules::index(places, wide(r)),
             n,
             r,
-            table[5 * n + r] as usize,
+            entries::total(table, n, r),
             table,
         ) {
             return false;
@@ -139,81 +105,61 @@ fn rules_pass(words: &[u16], places: &[u16], n: usize, rules: usize, table: &[u1
 }
 
 // Whether the chosen rule of a is one of a's, and its total what a's least and context come to.
-fn chosen_passes(
-    words: &[u16],
-    places: &[u16],
-    n: usize,
-    rules: usize,
-    a: usize,
-    table: &[u16],
-) -> bool
-    requires { ⌜ (n ≤ 128) × (rules ≤ 256) × (a < n) × (5 * n + rules ≤ length (now table)) ⌝ }
-    requires { ⌜ ((g : Grammar) × View (now words) (now places) n rules g) ⌝ }
+fn chosen_passes(words: &[u16], places: &[u16], n: u16, rules: u16, a: u16, table: &[u16]) -> bool
     ensures { λ r. ⌜ Answer (now (words .entry)) (now (places .entry)) n rules (λ g. ChosenPasses g (now (table .entry)) a) r ⌝ }
 {
-    let chosen = five(table, a, CHOSEN);
+    let chosen = entries::chosen(table, a);
     if rules <= chosen {
         return false;
     }
-    if words[rules::index(places, chosen)] as usize != a {
+    if read(words, rules::index(places, wide(chosen))) != a {
         return false;
     }
-    table[5 * n + chosen] as usize == five(table, a, LEAST) + five(table, a, CONTEXT)
+    entries::total(table, n, chosen) == entries::least(table, a) + entries::context(table, a)
 }
 
 // Whether the context rule of a has a at the context place, and its total is what a's least and context come to.
-fn context_passes(
-    words: &[u16],
-    places: &[u16],
-    n: usize,
-    rules: usize,
-    a: usize,
-    table: &[u16],
-) -> bool
-    requires { ⌜ (n ≤ 128) × (rules ≤ 256) × (a < n) × (5 * n + rules ≤ length (now table)) ⌝ }
+fn context_passes(words: &[u16], places: &[u16], n: u16, rules: u16, a: u16, table: &[u16]) -> bool
     ensures { λ r. ⌜ Answer (now (words .entry)) (now (places .entry)) n rules (λ g. ContextPasses g (now (table .entry)) a) r ⌝ }
 {
-    let by = five(table, a, RULE);
+    let by = entries::rule(table, a);
     if rules <= by {
         return false;
     }
-    let symbols = rules::right(words, rules::index(places, by));
-    let place = five(table, a, PLACE);
+    let symbols = rules::right(words, rules::index(places, wide(by)));
+    let place = wide(entries::place(table, a));
     if symbols.len() <= place {
         return false;
     }
-    if symbols[place] as usize != a {
+    if symbols[place] != a {
         return false;
     }
-    table[5 * n + by] as usize == five(table, a, LEAST) + five(table, a, CONTEXT)
+    entries::total(table, n, by) == entries::least(table, a) + entries::context(table, a)
 }
 
 // Whether the context of a, which is the start, is 0, with no rule and no place.
-fn start_passes(a: usize, table: &[u16]) -> bool
-    requires { ⌜ 5 * a + 5 ≤ length (now table) ⌝ }
+fn start_passes(a: u16, table: &[u16]) -> bool
     ensures { λ r. ⌜ Says r (StartPasses (now (table .entry)) a) ⌝ }
 {
-    if five(table, a, CONTEXT) != 0 {
+    if entries::context(table, a) != 0 {
         return false;
     }
-    if five(table, a, RULE) != NONE {
+    if entries::rule(table, a) != NO_CHOICE {
         return false;
     }
-    five(table, a, PLACE) == NONE
+    entries::place(table, a) == NO_CHOICE
 }
 
 // Whether the two choices of a are right.
 fn choice_passes(
     words: &[u16],
     places: &[u16],
-    n: usize,
-    start: usize,
-    rules: usize,
-    a: usize,
+    n: u16,
+    start: u16,
+    rules: u16,
+    a: u16,
     table: &[u16],
 ) -> bool
-    requires { ⌜ (n ≤ 128) × (rules ≤ 256) × (a < n) × (5 * n + rules ≤ length (now table)) ⌝ }
-    requires { ⌜ ((g : Grammar) × View (now words) (now places) n rules g) ⌝ }
     ensures { λ r. ⌜ Answer (now (words .entry)) (now (places .entry)) n rules
         (λ g. ChoicePasses g start (now (table .entry)) a) r ⌝ }
 {
@@ -231,13 +177,11 @@ fn choice_passes(
 fn choices_pass(
     words: &[u16],
     places: &[u16],
-    n: usize,
-    start: usize,
-    rules: usize,
+    n: u16,
+    start: u16,
+    rules: u16,
     table: &[u16],
 ) -> bool
-    requires { ⌜ (n ≤ 128) × (rules ≤ 256) × (5 * n + rules ≤ length (now table)) ⌝ }
-    requires { ⌜ ((g : Grammar) × View (now words) (now places) n rules g) ⌝ }
     ensures { λ r. ⌜ Answer (now (words .entry)) (now (places .entry)) n rules
         (λ g. ChoicesPass g start (now (table .entry))) r ⌝ }
 {
@@ -252,20 +196,11 @@ fn choices_pass(
 }
 
 // Whether a table passes all tests: it is long enough, and its choices and its rules are right.
-pub fn passes(
-    words: &[u16],
-    places: &[u16],
-    n: usize,
-    start: usize,
-    rules: usize,
-    table: &[u16],
-) -> bool
-    requires { ⌜ (n ≤ 128) × (rules ≤ 256) ⌝ }
-    requires { ⌜ ((g : Grammar) × View (now words) (now places) n rules g) ⌝ }
+pub fn passes(words: &[u16], places: &[u16], n: u16, start: u16, rules: u16, table: &[u16]) -> bool
     ensures { λ r. ⌜ ((g : Grammar) → View (now (words .entry)) (now (places .entry)) n rules g → start ≡ g .start →
-        Says r (Accepted limit g × HasTable g (now (table .entry)))) ⌝ }
+        Says r (Own (now (table .entry)) g)) ⌝ }
 {
-    if table.len() < 5 * n + rules {
+    if table.len() < entries::length(n, rules) {
         return false;
     }
     if !choices_pass(words, places, n, start, rules, table) {
