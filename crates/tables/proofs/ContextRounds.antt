@@ -18,7 +18,7 @@ use Rattle.layout.specs.Rules.{rightAt}
 use Rattle.grammar.specs.Caps.{OfOpen, measureCap}
 use Rattle.grammar.specs.Certificates.{wordSize, Holds, othersSize}
 use Rattle.grammar.proofs.AtRest.{place-figure}
-use Rattle.tables.specs.Figures.{figure, Has, capped, Lowered, fell, stayed, LeastsDone, ContextsSound, ContextQuiet}
+use Rattle.tables.specs.Figures.{noFigure, figure, Has, capped, Lowered, fell, stayed, LeastsDone, ContextsSound, ContextQuiet}
 use Rattle.tables.specs.ContextSteps.{PlaceStep, skipped, tried, PlacesStep, no-symbol, symbol}
 use Rattle.tables.specs.ContextSteps.{ContextStep, as-seen, unseen, Known, Tried, Stands, SeenTurn}
 use Rattle.entries.proofs.SizeApart.{size-apart}
@@ -67,7 +67,7 @@ module _ (g : Grammar) (vs : List ℕ) (whole : ℕ) where
   place-low (skipped (inl h)) room l le = absurd (omega arith)
   place-low (skipped (inr h)) room l le = absurd (omega arith)
   place-low {s} {us = us} (tried l le (fell h m)) room _ _ =
-      omega (arith, getD-set-same us s (capped (whole - figure vs s)) 65535 h)
+      omega (arith, getD-set-same us s (capped (whole - figure vs s)) noFigure h)
   place-low (tried l le (stayed h)) room _ _ = h (omega arith)
 
   low-more : (s : ℕ) (w us : List ℕ) → Low s us → AllLow w us → AllLow (s ∷ w) us
@@ -102,9 +102,9 @@ module _ {g : Grammar} {k B : ℕ} {w : List ℕ} (r : RuleAt g k B w) {vs us se
 
   -- where the rule is tried its left side has a context: while it had none, none was seen
   unseen-has : ¬ (figure us B ≡ figure seen k) → Has us B
-  unseen-has differs none = go (ℕ-discrete (figure seen k) 65535)
+  unseen-has differs none = go (ℕ-discrete (figure seen k) noFigure)
     where
-      go : Dec (figure seen k ≡ 65535) → ⊥
+      go : Dec (figure seen k ≡ noFigure) → ⊥
       go (yes e) = differs (none ∙ sym e)
       go (no has) = omega (arith, stands .of-seen k B w r has .has)
 
@@ -128,15 +128,15 @@ module _ {g : Grammar} {k B : ℕ} {w : List ℕ} (r : RuleAt g k B w) {vs us se
       Tried g vs us′ B w (figure seen′ k)
   step-tried (as-seen e) has = stands .of-seen k B w r has
   step-tried (unseen long small differs ps) has =
-      rw (getD-set-same seen k (figure us B) 65535 long) (record {
+      rw (getD-set-same seen k (figure us B) noFigure long) (record {
         has = omega (arith, places-no-higher ps B, below);
         low = tried-low ps;
       })
     where
-      below : figure us B < 65535
-      below = go (ℕ-discrete (figure us B) 65535)
+      below : figure us B < noFigure
+      below = go (ℕ-discrete (figure us B) noFigure)
         where
-          go : Dec (figure us B ≡ 65535) → figure us B < 65535
+          go : Dec (figure us B ≡ noFigure) → figure us B < noFigure
           go (yes e) = absurd (unseen-has differs e)
           go (no d) = omega arith
 
@@ -155,7 +155,7 @@ module _ {n size k B : ℕ} {vs w us us′ seen seen′ : List ℕ} {f : ℕ} (s
     where
       go : {ys ss : List ℕ} {m : ℕ} → ContextStep n size vs k B w us seen ys ss m → figure ss j ≡ figure seen j
       go (as-seen e) = refl
-      go (unseen long small differs ps) = getD-set-other seen k j (figure us B) 65535 d
+      go (unseen long small differs ps) = getD-set-other seen k j (figure us B) noFigure d
 
   others-tried : {g : Grammar} → Stands g vs us seen → (j C : ℕ) (u : List ℕ) → ¬ (j ≡ k) → RuleAt g j C u → Has seen′ j →
       Tried g vs us′ C u (figure seen′ j)

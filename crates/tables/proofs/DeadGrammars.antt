@@ -6,7 +6,10 @@ use Prim.Native.Nat.{ℕ}
 use mathlib.Core.Path.{_≡_, subst}
 use mathlib.Core.Logic.{_⊎_, inl, inr, _↔_}
 use mathlib.Core.List.{List}
-use Rattle.answers.specs.Refusals.{no-tree, unreached}
+use Rattle.answers.specs.GrammarRefusals.{no-tree, unreached}
+use Rattle.grammar.specs.Rows.{GrammarRefused, row-5, row-6}
+use Rattle.grammar.specs.Terms.{limit}
+use Rattle.tables.specs.Answers.{of-words}
 use Rattle.grammar.specs.Words.{Grammar, layout, reads}
 use Rattle.grammar.specs.Refusals.{Lowest, NoTree, Unreached, AllTrees, AllReached}
 use Rattle.grammar.proofs.Dead.{dead, open-reached}
@@ -15,7 +18,7 @@ use Rattle.tables.specs.Dead.{Dead, SaysDead}
 use Rattle.tables.specs.Promise.{Tables}
 use Rattle.tables.specs.declared.TableAnswer.{TableAnswer}
 use Rattle.grammar.proofs.LayoutExact.{reads-unique}
-use Rattle.tables.proofs.TablesExact.{tables-refuses}
+use Rattle.tables.proofs.TablesExact.{tables-exactly}
 
 pub no-tree-dead : {g : Grammar} {A : ℕ} → NoTree g A → Dead g
 no-tree-dead {A = A} z = record { A = A; nonterminal = z .nonterminal; nowhere = λ t s. z .none (s .below) }
@@ -42,14 +45,16 @@ module _ (words : List ℕ) {g : Grammar} (e : layout words ≡ reads g) {before
   pub tables-dead : Tables words before a after → SaysDead a ↔ Dead g
   tables-dead p = (to, λ d. from (dead-meets d))
     where
+      five : {A : ℕ} → GrammarRefused limit words (no-tree A) → Dead g
+      five (row-5 read low) = subst Dead (reads-unique words read e) (no-tree-dead (low .such))
+
+      six : {A : ℕ} → GrammarRefused limit words (unreached A) → Dead g
+      six (row-6 read t low) = subst Dead (reads-unique words read e) (unreached-dead (low .such))
+
       to : SaysDead a → Dead g
-      to (A, inl five) =
-          let (h, read, low) = tables-refuses p (no-tree A) .0 five in
-          subst Dead (reads-unique words read e) (no-tree-dead (low .such))
-      to (A, inr six) =
-          let (h, read, (t, low)) = tables-refuses p (unreached A) .0 six in
-          subst Dead (reads-unique words read e) (unreached-dead (low .such))
+      to (A, inl z) = five (tables-exactly p (of-words (no-tree A)) .0 z)
+      to (A, inr z) = six (tables-exactly p (of-words (unreached A)) .0 z)
 
       from : ((A : ℕ) × Lowest (NoTree g) A) ⊎ (AllTrees g × ((A : ℕ) × Lowest (Unreached g) A)) → SaysDead a
-      from (inl (A, low)) = (A, inl (tables-refuses p (no-tree A) .1 (g, e, low)))
-      from (inr (t, (A, low))) = (A, inr (tables-refuses p (unreached A) .1 (g, e, (t, low))))
+      from (inl (A, low)) = (A, inl (tables-exactly p (of-words (no-tree A)) .1 (row-5 e low)))
+      from (inr (t, (A, low))) = (A, inr (tables-exactly p (of-words (unreached A)) .1 (row-6 e t low)))

@@ -7,7 +7,7 @@ use native.Mathlib.Decide.{ℕ-discrete}
 use native.Mathlib.Omega.{arith}
 use lib.ListN.{length, set, length-set}
 use lib.Seq.{getD-set-same, getD-set-other}
-use Rattle.tables.specs.Figures.{figure, Has, Lowered, fell, stayed}
+use Rattle.tables.specs.Figures.{noFigure, figure, Has, Lowered, fell, stayed}
 
 -- at most one falls
 pub lowered-once : {xs ys : List ℕ} {A to n : ℕ} → Lowered xs A to ys n → n ≤ 1
@@ -22,8 +22,8 @@ pub lowered-no-higher : {xs ys : List ℕ} {A to n : ℕ} → Lowered xs A to ys
 lowered-no-higher {xs} {A = A} {to = to} (fell h l) B = go (ℕ-discrete B A)
   where
     go : Dec (B ≡ A) → figure (set xs A to) B ≤ figure xs B
-    go (yes e) = rw e (omega (arith, getD-set-same xs A to 65535 h))
-    go (no d) = omega (arith, getD-set-other xs A B to 65535 d)
+    go (yes e) = rw e (omega (arith, getD-set-same xs A to noFigure h))
+    go (no d) = omega (arith, getD-set-other xs A B to noFigure d)
 lowered-no-higher (stayed h) B = omega arith
 
 module _ (P : ℕ → ℕ → Type 0) (N : ℕ) where
@@ -32,6 +32,6 @@ module _ (P : ℕ → ℕ → Type 0) (N : ℕ) where
   lowered-known {xs} {A = A} {to = to} (fell h l) p known B below has = go (ℕ-discrete B A)
     where
       go : Dec (B ≡ A) → P B (figure (set xs A to) B)
-      go (yes e) = rw (e, getD-set-same xs A to 65535 h) p
-      go (no d) = let same = getD-set-other xs A B to 65535 d in rw same (known B below (rw same at has))
+      go (yes e) = rw (e, getD-set-same xs A to noFigure h) p
+      go (no d) = let same = getD-set-other xs A B to noFigure d in rw same (known B below (rw same at has))
   lowered-known (stayed h) p known B below has = known B below has

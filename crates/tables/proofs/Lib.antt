@@ -1,19 +1,8 @@
 -- Samples, by the definitions alone. Files are checked in the order of their names, so that a wrong definition meets a fact
 -- before it meets a proof.
 pub mod ASampleOfTables
--- What a table is.
-pub mod TablePlaces
-pub mod TableIsOne
-pub mod TableFits
-pub mod TableTests
-pub mod TableComputed
-pub mod TableSamples
-pub mod TableExists
-pub mod SizeApart
-pub mod TableWorkedOut
--- What the promises settle.
+-- What the promise settles.
 pub mod TablesSettles
-pub mod TestSettles
 pub mod TablesExact
 pub mod DeadGrammars
 -- The rounds.
@@ -35,17 +24,9 @@ pub mod RuleTotals
 -- The choices, the words, and the outcomes.
 pub mod FirstsNoted
 pub mod RulesChosen
-pub mod PlacesChosen
-pub mod TableEntries
+pub mod LeadsChosen
 pub mod RowsFound
 pub mod TableFound
 pub mod Outcomes
--- The pass over a lent table.
-pub mod Telling
-pub mod SymbolsHeld
-pub mod PlacesSummed
-pub mod RulesRead
-pub mod ChoicesRead
-pub mod TestsExact
 -- The final statements.
 pub mod Main

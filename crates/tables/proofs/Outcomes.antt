@@ -1,35 +1,31 @@
 -- The outcomes of working a table out, each a row of document 01: what the functions on the way promise each other, put together.
 -- Assumes nothing.
-use Prim.Native.Nat.{ℕ, zero, suc, _+_, _*_, _≤_, _<_}
+use Prim.Native.Nat.{ℕ, _+_, _*_, _≤_, _<_}
 use native.Mathlib.Omega.{arith}
-use mathlib.Core.Path.{_≡_, refl, sym, ap, _∙_, subst}
-use mathlib.Core.Bool.{Bool, true, false, false≢true}
+use mathlib.Core.Path.{_≡_, refl, ap, _∙_, subst}
 use mathlib.Core.List.{List}
 use lib.ListN.{length, getD, set}
 use Rattle.answers.specs.Buffers.{over}
-use Rattle.grammar.specs.Words.{Grammar, RuleAt, R, InBounds, layout, reads}
-use Rattle.layout.specs.Judge.{placesOf}
+use Rattle.grammar.specs.Words.{Grammar, RuleAt, R, InBounds}
 use Rattle.grammar.specs.Refusals.{AllFit, Accepted}
+use Rattle.grammar.specs.Rows.{row-5, row-6, row-7}
 use Rattle.grammar.specs.Terms.{limit}
 use Rattle.grammar.specs.Caps.{ceiling}
-use Rattle.grammar.proofs.LayoutExact.{in-bounds, reads-unique}
+use Rattle.grammar.proofs.LayoutExact.{in-bounds}
 use Rattle.grammar.proofs.RuleNumbers.{rule-number}
 use Rattle.grammar.proofs.CappedTotals.{all-fit-exact}
-use Rattle.entries.specs.Table.{tableLength, HasTable}
-use Rattle.tables.specs.Promise.{Tables, row-4, row-5, row-6, row-7, row-3, done}
-use Rattle.tables.specs.Promise.{Tested, test-4, test-5, test-6, test-7, its, not-its, placesWith, TestPromise}
-use Rattle.table_test.specs.Passes.{Says}
-use Rattle.tables.specs.Figures.{figure, FirstAbove, found-none, LeastsDone, ContextsRest, TotalsOf}
-use Rattle.tables.specs.LeastSteps.{LeastsSized}
 use Rattle.layout.specs.View.{View, Begun}
-use Rattle.tables.specs.Figures.{Empty, LeastsSound, ContextsSound, ChosenOf, PlacesOf}
-use Rattle.tables.specs.Rows.{Grown, Placed}
-use Rattle.tables.specs.Written.{Room}
+use Rattle.entries.specs.Table.{lengthFor, tableLength}
+use Rattle.entries.specs.Writing.{tableOf}
+use Rattle.tables.specs.Promise.{Tables, row-4-7, row-3, row-done}
+use Rattle.tables.specs.Figures.{figure, FirstAbove, found-none, LeastsDone, ContextsRest, TotalsOf}
+use Rattle.tables.specs.Figures.{NoFigures, LeastsSound, ContextsSound}
+use Rattle.tables.specs.LeastSteps.{LeastsSized}
+use Rattle.tables.specs.Choices.{ChosenOf, LeadsOf}
+use Rattle.tables.specs.Rows.{Grown, Placed, Finished}
+use Rattle.tables.specs.Filling.{foundIn, Reach}
 use Rattle.tables.specs.declared.TableAnswer.{TableAnswer}
 use Rattle.tables.specs.declared.TableAnswer.the-variants.{Done, Refused}
-use Rattle.tables.specs.declared.TableTest.{TableTest}
-use Rattle.tables.specs.declared.TableTest.the-variants as test
-use Rattle.tables.specs.declared.Testing.{Testing}
 use Rattle.tables.specs.declared.figures.Found.{Found}
 use Rattle.tables.specs.declared.figures.Found.the-variants.{At, Nothing}
 use Rattle.tables.proofs.RowsFound.{leasts-begin, contexts-begin, row-5-found, leasts-found, all-trees, row-6-found}
@@ -37,11 +33,10 @@ use Rattle.tables.proofs.RowsFound.{contexts-found}
 use Rattle.tables.proofs.RowsFound.{figures, all-reached, row-7-found, all-fit}
 use Rattle.tables.proofs.FiguresFall.{figure-is}
 use Rattle.tables.proofs.FiguresHaveRoom.{room-for-all}
-use Rattle.tables.proofs.TableEntries.{tableWords}
 use Rattle.tables.proofs.TableFound.{table-found}
 
 -- the arrays at the outset
-pub leasts-start : {ws places xs : List ℕ} {n start rules : ℕ} (p : Begun ws places n start rules) → Empty xs →
+pub leasts-start : {ws places xs : List ℕ} {n start rules : ℕ} (p : Begun ws places n start rules) → NoFigures xs →
     LeastsSound (p .grammar) xs
 leasts-start {ws} {xs = xs} p e = leasts-begin (p .grammar) xs (in-bounds ws (p .view .is) .nonterminals) e
 
@@ -52,7 +47,7 @@ start-few {ws} p =
     omega (arith, ok .start-below, ok .nonterminals)
 
 pub contexts-start : {ws places vs sizes xs : List ℕ} {n start rules : ℕ} (p : Grown ws places n start rules vs sizes) →
-    Empty xs → ContextsSound (p .grammar) (set xs start 0)
+    NoFigures xs → ContextsSound (p .grammar) (set xs start 0)
 contexts-start {ws} {xs = xs} p e =
     let ok = in-bounds ws (p .view .is) in
     rw (p .first) (contexts-begin (p .grammar) xs (ok .nonterminals) (ok .start-below) e)
@@ -65,7 +60,7 @@ module _ {ws places : List ℕ} {n start rules : ℕ} (g : Grammar) (view : View
 
   pub refuses-5 : {before : List ℕ} {a : ℕ} {r : TableAnswer} → found ≡ At a → r ≡ Refused 5 a → Tables ws before r before
   refuses-5 {a = a} e q =
-      rw q (row-5 (view .is) (row-5-found g vs (sized .rest) a (subst (FirstAbove vs (g .N) ceiling) e searched-leasts)))
+      rw q (row-4-7 (row-5 (view .is) (row-5-found g vs (sized .rest) a (subst (FirstAbove vs (g .N) ceiling) e searched-leasts))))
 
   leasts-done : found ≡ Nothing → LeastsDone g vs
   leasts-done e = leasts-found g vs (sized .rest) (subst (FirstAbove vs (g .N) ceiling) e searched-leasts)
@@ -87,8 +82,8 @@ module _ {ws places : List ℕ} {n start rules : ℕ} {vs sizes : List ℕ} (p :
 
   pub refuses-6 : {before : List ℕ} {a : ℕ} {r : TableAnswer} → found ≡ At a → r ≡ Refused 6 a → Tables ws before r before
   refuses-6 {a = a} e q =
-      rw q (row-6 (p .view .is) (all-trees (p .grammar) vs (p .leasts))
-      (row-6-found (p .grammar) vs (p .leasts) us rest a (subst (FirstAbove us (p .grammar .N) ceiling) e searched-contexts)))
+      rw q (row-4-7 (row-6 (p .view .is) (all-trees (p .grammar) vs (p .leasts))
+      (row-6-found (p .grammar) vs (p .leasts) us rest a (subst (FirstAbove us (p .grammar .N) ceiling) e searched-contexts))))
 
   pub placed : found ≡ Nothing → Placed ws places n rules vs sizes us
   placed e = record {
@@ -109,7 +104,7 @@ placed-room {vs = vs} {us = us} p =
     (rw e (room-for-all vs N (p .leasts .all)), rw e (room-for-all us N (p .contexts .all)))
 
 pub all-placed : {ws places : List ℕ} {n rules : ℕ} {vs sizes us chosen leads : List ℕ} → Placed ws places n rules vs sizes us →
-    n ≤ length chosen → n ≤ length leads → Room n vs chosen us leads
+    n ≤ length chosen → n ≤ length leads → Reach n vs chosen us leads
 all-placed p c q = let (of-leasts, of-contexts) = placed-room p in record {
   of-leasts = of-leasts;
   of-chosen = c;
@@ -132,23 +127,29 @@ module _ {ws places : List ℕ} {n rules : ℕ} {vs sizes us : List ℕ} (p : Pl
 
   pub refuses-7 : {before : List ℕ} {a : ℕ} {r : TableAnswer} → found ≡ At a → r ≡ Refused 7 a → Tables ws before r before
   refuses-7 {a = a} e q =
-      rw q (row-7 (p .view .is) (all-trees (p .grammar) vs (p .leasts)) (all-reached (p .grammar) vs (p .leasts) us (p .contexts))
+      rw q (row-4-7 (row-7 (p .view .is) (all-trees (p .grammar) vs (p .leasts)) (all-reached (p .grammar) vs (p .leasts) us (p .contexts))
       (row-7-found (p .grammar) vs (p .leasts) us (p .contexts) sizes totals (p .sizes-are) of-totals enough ok a
-      (subst (FirstAbove totals (R (p .grammar)) limit) e searched-totals)))
+      (subst (FirstAbove totals (R (p .grammar)) limit) e searched-totals))))
 
   pub fits : found ≡ Nothing → AllFit limit (p .grammar)
   fits e =
       all-fit (p .grammar) vs (p .leasts) us (p .contexts) sizes totals (p .sizes-are) of-totals enough ok
       (subst (FirstAbove totals (R (p .grammar)) limit) e searched-totals)
 
-  needed : 5 * n + rules ≡ tableLength (p .grammar)
-  needed = let a = p .view .nonterminals in let b = p .view .all-rules in omega arith
+  needed : lengthFor n rules ≡ tableLength (p .grammar)
+  needed = rw (p .view .nonterminals, p .view .all-rules) refl
 
-  pub refuses-3 : {before : List ℕ} {r : TableAnswer} → found ≡ Nothing → length before < 5 * n + rules →
-      r ≡ Refused 3 (5 * n + rules) → Tables ws before r before
-  refuses-3 e l q =
-      rw (q, needed) (row-3 (p .view .is) (all-trees (p .grammar) vs (p .leasts))
-      (all-reached (p .grammar) vs (p .leasts) us (p .contexts)) (fits e) (rw needed at l))
+  accepts : found ≡ Nothing → Accepted limit (p .grammar)
+  accepts e = record {
+    trees = all-trees (p .grammar) vs (p .leasts);
+    reached = all-reached (p .grammar) vs (p .leasts) us (p .contexts);
+    fit = fits e;
+  }
+
+  pub refuses-3 : {before : List ℕ} {m : ℕ} {r : TableAnswer} → found ≡ Nothing → m ≡ lengthFor n rules → length before < m →
+      r ≡ Refused 3 m → Tables ws before r before
+  refuses-3 e is l q =
+      rw (q, is, needed) (row-3 (p .view .is) (accepts e) (omega (arith, l, is, needed)))
 
   -- no total is cut
   exact : found ≡ Nothing → (k A : ℕ) (w : List ℕ) → RuleAt (p .grammar) k A w → getD totals k 0 ≡ figure us A + getD sizes k 0
@@ -163,66 +164,18 @@ module _ {ws places : List ℕ} {n rules : ℕ} {vs sizes us : List ℕ} (p : Pl
           omega arith
 
   -- the words that were written, in the grammar's own numbers
-  same-words : (chosen leads : List ℕ) →
-      let own = tableWords (p .grammar .N) vs chosen us leads totals (R (p .grammar)) in
-      tableWords n vs chosen us leads totals rules ≡ own
+  same-words : (chosen leads : List ℕ) → tableOf n rules (foundIn vs chosen us leads totals) ≡
+      tableOf (p .grammar .N) (R (p .grammar)) (foundIn vs chosen us leads totals)
   same-words chosen leads = rw (p .view .nonterminals, p .view .all-rules) refl
 
-  pub writes : (chosen leads : List ℕ) {before after : List ℕ} → found ≡ Nothing → 5 * n + rules ≤ length before →
-      ChosenOf (p .grammar) vs sizes chosen rules → PlacesOf (p .grammar) vs us totals leads (32 * rules) →
-      after ≡ over (tableWords n vs chosen us leads totals rules) before → Tables ws before (Done (5 * n + rules)) after
-  writes chosen leads {before} e l c q w =
+  pub finishes : {before after : List ℕ} {m : ℕ} → found ≡ Nothing → m ≡ lengthFor n rules → m ≤ length before →
+      Finished ws places n rules vs sizes us totals before after → Tables ws before (Done m) after
+  finishes {before} {after} e is l z =
       let all = figures (p .grammar) vs (p .leasts) us (p .contexts) in
       let (leasts, contexts) = all-fit-exact limit (omega arith) (p .grammar) (figure vs) (figure us) all (fits e) in
-      let t = table-found (p .grammar) ok vs us sizes totals chosen leads leasts contexts (p .sizes-are) (exact e)
-      (subst (ChosenOf (p .grammar) vs sizes chosen) (p .view .all-rules) c)
-      (subst (λ (m : ℕ). PlacesOf (p .grammar) vs us totals leads (32 * m)) (p .view .all-rules) q) in
-      rw (w ∙ ap (λ (x : List ℕ). over x before) (same-words chosen leads), needed) (done (p .view .is) (all-trees (p .grammar) vs (p .leasts))
-      (all-reached (p .grammar) vs (p .leasts) us (p .contexts)) (fits e) (rw needed at l) t)
-
--- a lent table, tested: it is the grammar's, or it is not, and then rows 5 to 7 are those of a table without room
-module _ {ws places : List ℕ} {n start rules : ℕ} (p : Begun ws places n start rules) (table : List ℕ) where
-  pub tests-its : (r : Bool) → r ≡ true → Says r (Accepted limit (p .grammar) × HasTable (p .grammar) table) →
-      Tested ws table (test.Its rules)
-  tests-its true e z = rw (p .view .all-rules) (its (p .view .is) (z .0) (z .1))
-  tests-its false e z = absurd (false≢true e)
-
-  pub not-own : (r : Bool) → r ≡ false → Says r (Accepted limit (p .grammar) × HasTable (p .grammar) table) →
-      Accepted limit (p .grammar) →
-      ¬ HasTable (p .grammar) table
-  not-own true e z a h = absurd (false≢true (sym e))
-  not-own false e z a h = z (a, h)
-
-  module _ (other : Accepted limit (p .grammar) → ¬ HasTable (p .grammar) table) where
-    accepts : {g : Grammar} → layout ws ≡ reads g → Accepted limit g → Tested ws table test.NotIts
-    accepts {g} e a =
-        let b : Accepted limit (p .grammar) = rw (reads-unique ws e (p .view .is)) at a in
-        not-its (p .view .is) b (other b)
-
-    -- what is said of the answer without room, Done or refused by 3 or not
-    pub done-is-not-its : {before after : List ℕ} {a : TableAnswer} {k : ℕ} → Tables ws before a after → a ≡ Done k →
-        Tested ws table test.NotIts
-    done-is-not-its t e = go (rw e at t)
-      where
-        go : {before after : List ℕ} {k : ℕ} → Tables ws before (Done k) after → Tested ws table test.NotIts
-        go (done e t u f l is) = accepts e (record { trees = t; reached = u; fit = f })
-
-    pub refused-is : {before after : List ℕ} {a : TableAnswer} {k q : ℕ} {r : TableTest} → Tables ws before a after →
-        a ≡ Refused k q → (k ≡ 3 → r ≡ test.NotIts) × (¬ (k ≡ 3) → r ≡ test.Refused k q) → Tested ws table r
-    refused-is t e is = go (rw e at t) is
-      where
-        go : {before after : List ℕ} {k q : ℕ} {r : TableTest} → Tables ws before (Refused k q) after →
-            (k ≡ 3 → r ≡ test.NotIts) × (¬ (k ≡ 3) → r ≡ test.Refused k q) → Tested ws table r
-        go (row-4 e) is = rw (is .1 (λ z. omega arith)) (test-4 e)
-        go (row-5 e low) is = rw (is .1 (λ z. omega arith)) (test-5 e low)
-        go (row-6 e t low) is = rw (is .1 (λ z. omega arith)) (test-6 e t low)
-        go (row-7 e t u low) is = rw (is .1 (λ z. omega arith)) (test-7 e t u low)
-        go (row-3 e t u f l) is = rw (is .0 refl) (accepts e (record { trees = t; reached = u; fit = f }))
-
--- what `test` hands back, of an answer and where the rules stand
-pub with-places : {ws table places : List ℕ} {a : TableTest} {r : Testing} → Tested ws table a → places ≡ placesOf (layout ws) →
-    r .answer ≡ a → r .places ≡ placesWith a places → TestPromise ws table r
-with-places {ws} {table} {a = a} t s same stand = record {
-  tested = subst (λ (x : TableTest). Tested ws table x) (sym same) t;
-  stand = stand ∙ ap (placesWith a) s ∙ ap (λ (x : TableTest). placesWith x (placesOf (layout ws))) (sym same);
-}
+      let t = table-found (p .grammar) ok vs us sizes totals (z .chosen) (z .leads) leasts contexts (p .sizes-are) (exact e)
+      (subst (ChosenOf (p .grammar) vs sizes (z .chosen)) (p .view .all-rules) (z .of-chosen (p .grammar) (p .view)))
+      (subst (λ (m : ℕ). LeadsOf (p .grammar) vs us totals (z .leads) (32 * m)) (p .view .all-rules)
+      (z .of-leads (p .grammar) (p .view))) in
+      rw (z .filled ∙ ap (λ (x : List ℕ). over x before) (same-words (z .chosen) (z .leads)), is, needed)
+      (row-done (p .view .is) (accepts e) (omega (arith, l, is, needed)) t)

@@ -21,17 +21,17 @@ use Rattle.grammar.proofs.CappedContexts.{certificate-reached, start-figure}
 use Rattle.grammar.proofs.CappedTotals.{oversize-exact, fits-exact}
 use Rattle.grammar.proofs.AtRest.{no-figure-no-tree, rest-context-certificate, no-figure-unreached}
 use Rattle.tables.specs.declared.figures.Found.the-variants.{At, Nothing}
-use Rattle.tables.specs.Figures.{figure, Has, capped, FirstAbove, found-at, found-none, LeastsSound, LeastsRest}
+use Rattle.tables.specs.Figures.{noFigure, figure, Has, capped, FirstAbove, found-at, found-none, LeastsSound, LeastsRest}
 use Rattle.tables.specs.Figures.{LeastsDone, SizesOf}
-use Rattle.tables.specs.Figures.{ContextsSound, ContextsRest, TotalsOf, Empty}
+use Rattle.tables.specs.Figures.{ContextsSound, ContextsRest, TotalsOf, NoFigures}
 use Rattle.tables.specs.Rows.{ContextsDone}
 use Rattle.tables.proofs.FiguresFall.{figure-is}
 use Rattle.tables.proofs.DoneLeasts.{done-certificate}
 
 has? : (xs : List ℕ) (A : ℕ) → Dec (Has xs A)
-has? xs A = go (ℕ-discrete (figure xs A) 65535)
+has? xs A = go (ℕ-discrete (figure xs A) noFigure)
   where
-    go : Dec (figure xs A ≡ 65535) → Dec (Has xs A)
+    go : Dec (figure xs A ≡ noFigure) → Dec (Has xs A)
     go (yes e) = no (λ h. h e)
     go (no d) = yes d
 
@@ -45,25 +45,25 @@ lowest-where {P} {a} p none = record { such = p; lowest = λ m q. go m q (decLt 
 
 module _ (g : Grammar) where
   -- AT THE OUTSET no nonterminal has a least; and the start alone a context, which is 0
-  pub leasts-begin : (xs : List ℕ) → g .N ≤ 128 → Empty xs → LeastsSound g xs
+  pub leasts-begin : (xs : List ℕ) → g .N ≤ 128 → NoFigures xs → LeastsSound g xs
   leasts-begin xs few e A lt h =
-      absurd (h (ap (λ (l : List ℕ). figure l A) e ∙ getD-replicate 128 A 65535 65535 (omega arith)))
+      absurd (h (ap (λ (l : List ℕ). figure l A) e ∙ getD-replicate 128 A noFigure noFigure (omega arith)))
 
-  pub contexts-begin : (xs : List ℕ) → g .N ≤ 128 → g .start < g .N → Empty xs → ContextsSound g (set xs (g .start) 0)
+  pub contexts-begin : (xs : List ℕ) → g .N ≤ 128 → g .start < g .N → NoFigures xs → ContextsSound g (set xs (g .start) 0)
   contexts-begin xs few within e = record { start = at-start; of-open = λ A lt h. go A lt h (ℕ-discrete A (g .start)) }
     where
       long : length xs ≡ 128
       long = ap length e ∙ length-replicate {A = ℕ} 128 65535
 
       at-start : figure (set xs (g .start) 0) (g .start) ≡ 0
-      at-start = getD-set-same xs (g .start) 0 65535 (omega (arith, long))
+      at-start = getD-set-same xs (g .start) 0 noFigure (omega (arith, long))
 
       go : (A : ℕ) → A < g .N → Has (set xs (g .start) 0) A → Dec (A ≡ g .start) →
           OfOpen measure measureCap g A (figure (set xs (g .start) 0) A)
       go A lt h (yes q) = rw (q, at-start) (start-figure measure measureCap g)
       go A lt h (no d) =
-          let kept = getD-set-other xs (g .start) A 0 65535 d in
-          let none = ap (λ (l : List ℕ). figure l A) e ∙ getD-replicate 128 A 65535 65535 (omega arith) in
+          let kept = getD-set-other xs (g .start) A 0 noFigure d in
+          let none = ap (λ (l : List ℕ). figure l A) e ∙ getD-replicate 128 A noFigure noFigure (omega arith) in
           absurd (h (kept ∙ none))
 
   -- 5

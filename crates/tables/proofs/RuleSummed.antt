@@ -13,7 +13,7 @@ use Rattle.grammar.specs.Tree.{_∈_}
 use Rattle.grammar.specs.Terms.{measure}
 use Rattle.grammar.specs.Certificates.{symbolSize, wordSize}
 use Rattle.grammar.proofs.Certificate.{symbol-nonterminal, symbol-terminal}
-use Rattle.tables.specs.Figures.{figure, Has, HaveIn}
+use Rattle.tables.specs.Figures.{noFigure, figure, Has, HaveIn}
 use Rattle.tables.specs.LeastSteps.{SizeOf}
 use Rattle.tables.proofs.FiguresFall.{figure-is}
 
@@ -37,11 +37,11 @@ module _ (n : ℕ) (vs w : List ℕ) where
   symbol-is {s} (of-nonterminal h) g e = symbol-nonterminal measure g (figure vs) s (omega arith)
   symbol-is {s} (of-terminal h) g e = symbol-terminal measure g (figure vs) s (omega arith)
 
-  symbol-has : {s x : ℕ} → SymbolSize n vs s x → ¬ (x ≡ 65535) → s < n → Has vs s
+  symbol-has : {s x : ℕ} → SymbolSize n vs s x → ¬ (x ≡ noFigure) → s < n → Has vs s
   symbol-has (of-nonterminal h) has l = has
   symbol-has (of-terminal h) has l = absurd (omega arith)
 
-  have-more : {s x : ℕ} {u : List ℕ} → SymbolSize n vs s x → ¬ (x ≡ 65535) → HaveIn n vs u → HaveIn n vs (s ∷ u)
+  have-more : {s x : ℕ} {u : List ℕ} → SymbolSize n vs s x → ¬ (x ≡ noFigure) → HaveIn n vs u → HaveIn n vs (s ∷ u)
   have-more {s} z has have B m l = ⊎-elim (λ e. rw e (symbol-has z has (rw e at l))) (λ m′. have B m′ l) (List·Memᴰ·cases-cons m)
 
   pub summed-none : Summed n vs w 0 1
@@ -76,11 +76,11 @@ module _ (n : ℕ) (vs w : List ℕ) where
       is g e = omega (arith, so-far .rest g e, ap (wordSize measure g (figure vs)) end)
 
   -- a symbol without a size
-  symbol-lacks : {s x : ℕ} → SymbolSize n vs s x → x ≡ 65535 → (s < n) × (¬ Has vs s)
+  symbol-lacks : {s x : ℕ} → SymbolSize n vs s x → x ≡ noFigure → (s < n) × (¬ Has vs s)
   symbol-lacks (of-nonterminal h) e = (h, λ has. has e)
   symbol-lacks (of-terminal h) e = absurd (omega arith)
 
-  pub lacks-size : (i : ℕ) {x : ℕ} → i < length w → SymbolSize n vs (getD w i 0) x → x ≡ 65535 → ¬ HaveIn n vs w
+  pub lacks-size : (i : ℕ) {x : ℕ} → i < length w → SymbolSize n vs (getD w i 0) x → x ≡ noFigure → ¬ HaveIn n vs w
   lacks-size i h z e have = let (l, lacks) = symbol-lacks z e in lacks (have (getD w i 0) (at-place w i h) l)
     where
       at-place : (u : List ℕ) (i : ℕ) → i < length u → getD u i 0 ∈ u

@@ -6,8 +6,9 @@ use Prim.Native.Nat.{ℕ, _+_, _≤_, _<_}
 use native.Mathlib.Omega.{arith}
 use lib.ListN.{length, getD}
 use Rattle.grammar.specs.Words.{Grammar, RuleAt}
-use Rattle.tables.specs.Figures.{figure, RuleFits, ChosenOf}
-use Rattle.tables.specs.Noted.{NotedWhere, does, does-not}
+use Rattle.tables.specs.Figures.{figure}
+use Rattle.tables.specs.Choices.{RuleFits, ChosenOf}
+use Rattle.tables.specs.Choices.{NotedWhere, does, does-not}
 use Rattle.tables.proofs.FirstsNoted.{firsts-past, firsts-noted}
 use Rattle.layout.specs.View.{View}
 use Rattle.layout.proofs.RulesInView.{viewed-rule, viewed-left, viewed-room}

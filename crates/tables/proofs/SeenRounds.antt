@@ -11,7 +11,7 @@ use borrow.Author.Count.{below-more}
 use native.Mathlib.Decide.{decLt}
 use lib.ListN.{length, replicate, getD-replicate, length-replicate, List·getD-eq-default}
 use Rattle.grammar.specs.Words.{Grammar}
-use Rattle.tables.specs.Figures.{figure, Fallen, turn, ContextsSound, ContextQuiet}
+use Rattle.tables.specs.Figures.{noFigure, figure, Fallen, turn, ContextsSound, ContextQuiet}
 use Rattle.tables.specs.ContextSteps.{Known, Stands, SeenTurn, SeenRound}
 use Rattle.tables.proofs.RoundsCompose.{each-turn}
 
@@ -61,16 +61,16 @@ module _ (g : Grammar) (vs : List ℕ) where
   }
 
   -- at the outset no rule is seen
-  pub outset : {us seen : List ℕ} → ContextsSound g us → seen ≡ replicate 256 65535 → Stands g vs us seen
+  pub outset : {us seen : List ℕ} → ContextsSound g us → seen ≡ replicate 256 noFigure → Stands g vs us seen
   outset {us} {seen} sound e = record {
     sound = sound;
     of-seen = λ k B w r has. absurd (has (rw e (none-at k (decLt k 256))));
   }
     where
-      none-at : (k : ℕ) → Dec (k < 256) → figure (replicate 256 65535) k ≡ 65535
-      none-at k (yes h) = getD-replicate 256 k 65535 65535 h
+      none-at : (k : ℕ) → Dec (k < 256) → figure (replicate 256 noFigure) k ≡ noFigure
+      none-at k (yes h) = getD-replicate 256 k noFigure noFigure h
       none-at k (no h) =
-          List·getD-eq-default (replicate 256 65535) 65535 {n = k} (omega (arith, length-replicate {A = ℕ} 256 65535))
+          List·getD-eq-default (replicate 256 noFigure) noFigure {n = k} (omega (arith, length-replicate {A = ℕ} 256 noFigure))
 
 -- A round after its first i turns, as a loop over them needs it: the arrays kept their lengths, the count is small, so many
 -- contexts fell, and for each grammar that is known the turns did what turns do.

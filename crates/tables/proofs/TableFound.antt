@@ -8,23 +8,34 @@ use native.Mathlib.Decide.{decLt}
 use mathlib.Core.Path.{_≡_, refl, sym, ap, _∙_}
 use mathlib.Core.Logic.{_⊎_, inl, inr}
 use mathlib.Core.List.{List}
+use lib.Dec.{eqb}
 use lib.ListN.{getD}
+use borrow.Author.Tests.{eq-eqb, ne-eqb}
 use Rattle.grammar.specs.Words.{Grammar, RuleAt, R, InBounds}
 use Rattle.grammar.specs.Terms.{measure}
 use Rattle.grammar.specs.Refusals.{Lowest}
 use Rattle.grammar.proofs.LayoutExact.{rule-short}
 use Rattle.grammar.proofs.RuleNumbers.{rule-number}
-use Rattle.grammar.specs.Certificates.{wordSize, Leasts, Holds, Contexts}
+use Rattle.grammar.specs.Certificates.{either, wordSize, Leasts, Holds, Contexts, Figures}
 use Rattle.grammar.proofs.ContextCertificate.{context-certificate}
 use Rattle.grammar.proofs.ContextsExist.{holds-below}
-use Rattle.entries.specs.Table.{IsTable}
-use Rattle.tables.specs.Figures.{figure, SizesOf, First, none-has, first, RuleFits, ChosenOf, PlaceFits, PlacesOf}
-use Rattle.tables.specs.Written.{contextRule, contextPlace, fiveWord}
+use Rattle.entries.specs.Table.{noChoice, IsTable}
+use Rattle.tables.specs.Figures.{figure, SizesOf}
+use Rattle.tables.specs.Choices.{choice, First, none-has, first, RuleFits, ChosenOf, PlaceFits, LeadsOf}
+use Rattle.tables.specs.Filling.{contextRule, contextPlace, foundIn}
 use Rattle.entries.proofs.SizeApart.{size-apart}
-use Rattle.tables.proofs.TableEntries.{tableWords, table-length, at-five, at-total, or-none, or-some}
+use Rattle.entries.specs.Writing.{tableOf}
+use Rattle.entries.proofs.EntriesWritten.{table-long, at-least, at-chosen, at-context, at-rule, at-place, at-total}
 use Rattle.entries.specs.TableCertificates as out
 use Rattle.entries.specs.TableCertificates.{Attaining, Leading}
 use Rattle.entries.proofs.TableWorkedOut.{worked-out, first-rule, first-place}
+
+-- a choice or none
+pub or-none : (q x : ℕ) → q ≡ noChoice → either (eqb q noChoice) noChoice x ≡ noChoice
+or-none q x e = rw (eq-eqb q noChoice e)
+
+pub or-some : (q x : ℕ) → ¬ (q ≡ noChoice) → either (eqb q noChoice) noChoice x ≡ x
+or-some q x d = rw (ne-eqb q noChoice d)
 
 -- what is first, where there is one at all
 record FirstOf (P : ℕ → Type 0) (n x : ℕ) : Type 0 where
@@ -40,14 +51,14 @@ first-of {P} (first {k = x} l p before) k m q = record { below = l; such = p; le
     go j r (yes h) = absurd (before j h r)
     go j r (no h) = omega arith
 
-none-of : {P : ℕ → Type 0} {n x : ℕ} → First P n x → ((k : ℕ) → ¬ P k) → x ≡ 65535
+none-of : {P : ℕ → Type 0} {n x : ℕ} → First P n x → ((k : ℕ) → ¬ P k) → x ≡ noChoice
 none-of (none-has none) never = refl
 none-of (first {k = x} l p before) never = absurd (never x p)
 
 module _ (g : Grammar) (ok : InBounds g) (vs us sizes totals chosen leads : List ℕ)
     (leasts : Leasts measure g (figure vs)) (contexts : Contexts measure g (figure vs) (figure us)) (of-sizes : SizesOf g vs sizes)
     (of-totals : (k A : ℕ) (w : List ℕ) → RuleAt g k A w → getD totals k 0 ≡ figure us A + getD sizes k 0)
-    (of-chosen : ChosenOf g vs sizes chosen (R g)) (of-leads : PlacesOf g vs us totals leads (32 * R g)) where
+    (of-chosen : ChosenOf g vs sizes chosen (R g)) (of-leads : LeadsOf g vs us totals leads (32 * R g)) where
   abbrev v : ℕ → ℕ
   v A = figure vs A
 
@@ -64,7 +75,7 @@ module _ (g : Grammar) (ok : InBounds g) (vs us sizes totals chosen leads : List
   attains : {A k : ℕ} → RuleFits g vs sizes A k → Attaining g v A k
   attains {A} {k} f = (f .w, f .rule, f .same ∙ of-sizes k A (f .w) (f .rule))
 
-  chosen-lowest : (A : ℕ) → A < g .N → Lowest (Attaining g v A) (figure chosen A)
+  chosen-lowest : (A : ℕ) → A < g .N → Lowest (Attaining g v A) (choice chosen A)
   chosen-lowest A lt =
       let (k, low) = first-rule g v u ok leasts contexts A lt in
       let f = first-of (of-chosen A lt) k (rule-number (low .such .1)) (rule-fits (low .such)) in
@@ -85,7 +96,7 @@ module _ (g : Grammar) (ok : InBounds g) (vs us sizes totals chosen leads : List
   place-below {A} {k} {i} (B, w, r, h, e) = omega (arith, rule-number r, holds-few i A r h)
 
   place-of : (A : ℕ) → A < g .N → ¬ (A ≡ g .start) →
-      out.First (Leading g v u A) (contextRule (figure leads A)) (contextPlace (figure leads A))
+      out.First (Leading g v u A) (contextRule (choice leads A)) (contextPlace (choice leads A))
   place-of A lt d =
       let (k, i, p) = first-place g v u ok leasts contexts A lt d in
       let f = first-of (of-leads A lt) (32 * k + i) (place-below (p .such)) (place-fits (p .such)) in
@@ -94,9 +105,9 @@ module _ (g : Grammar) (ok : InBounds g) (vs us sizes totals chosen leads : List
       let is = z .is in
       let few = ok .at-most-256 in
       let below = f .below in
-      let some : ¬ (figure leads A ≡ 65535) = λ e. omega arith in
-      let k-is : contextRule (figure leads A) ≡ z .k = or-some _ _ some ∙ omega arith in
-      let i-is : contextPlace (figure leads A) ≡ z .i = or-some _ _ some ∙ omega arith in
+      let some : ¬ (choice leads A ≡ noChoice) = λ e. omega arith in
+      let k-is : contextRule (choice leads A) ≡ z .k = or-some _ _ some ∙ omega arith in
+      let i-is : contextPlace (choice leads A) ≡ z .i = or-some _ _ some ∙ omega arith in
       rw (k-is, i-is) (record {
         such = leads-to z;
         first = λ j h a.
@@ -112,7 +123,7 @@ module _ (g : Grammar) (ok : InBounds g) (vs us sizes totals chosen leads : List
           go (no n) = inr (omega arith, omega arith)
 
   -- no place is noted for the start
-  start-none : g .start < g .N → figure leads (g .start) ≡ 65535
+  start-none : g .start < g .N → choice leads (g .start) ≡ noChoice
   start-none lt = none-of (of-leads (g .start) lt) never
     where
       never : (q : ℕ) → ¬ PlaceFits g vs us totals (g .start) q
@@ -123,20 +134,19 @@ module _ (g : Grammar) (ok : InBounds g) (vs us sizes totals chosen leads : List
           let same = f .same in
           omega arith
 
-  five : (A j : ℕ) → A < g .N → j < 5 →
-      getD (tableWords (g .N) vs chosen us leads totals (R g)) (5 * A + j) 0 ≡ fiveWord vs chosen us leads A j
-  five A j = at-five (g .N) vs chosen us leads totals (R g) A j
+  abbrev F : Figures measure
+  F = foundIn vs chosen us leads totals
 
   -- THE TABLE
-  pub table-found : IsTable g (tableWords (g .N) vs chosen us leads totals (R g))
+  pub table-found : IsTable g (tableOf (g .N) (R g) F)
   table-found =
       worked-out g v u ok leasts contexts (record {
-        long = table-length (g .N) vs chosen us leads totals (R g);
-        leasts = λ A lt. five A 0 lt (omega arith);
-        chosen = λ A lt. rw (five A 1 lt (omega arith)) (chosen-lowest A lt);
-        contexts = λ A lt. five A 2 lt (omega arith);
-        choices = λ A lt d. rw (five A 3 lt (omega arith), five A 4 lt (omega arith)) (place-of A lt d);
-        start-rule = five (g .start) 3 (ok .start-below) (omega arith) ∙ or-none _ _ (start-none (ok .start-below));
-        start-place = five (g .start) 4 (ok .start-below) (omega arith) ∙ or-none _ _ (start-none (ok .start-below));
-        totals = λ r A w rule. at-total (g .N) vs chosen us leads totals (R g) r (rule-number rule) ∙ total-of rule;
+        long = table-long (g .N) (R g) F;
+        leasts = λ A lt. at-least (g .N) (R g) F A lt;
+        chosen = λ A lt. rw (at-chosen (g .N) (R g) F A lt) (chosen-lowest A lt);
+        contexts = λ A lt. at-context (g .N) (R g) F A lt;
+        choices = λ A lt d. rw (at-rule (g .N) (R g) F A lt, at-place (g .N) (R g) F A lt) (place-of A lt d);
+        start-rule = at-rule (g .N) (R g) F (g .start) (ok .start-below) ∙ or-none _ _ (start-none (ok .start-below));
+        start-place = at-place (g .N) (R g) F (g .start) (ok .start-below) ∙ or-none _ _ (start-none (ok .start-below));
+        totals = λ r A w rule. at-total (g .N) (R g) F r (rule-number rule) ∙ total-of rule;
       })

@@ -1,104 +1,114 @@
--- Each answer of `tables` is given exactly when document 01 says so. One way, only the row of an answer has it; the other way,
--- its row allows it, and what is allowed is settled. Assumes nothing.
+-- Each answer of `tables` is given exactly when document 01 says so. One way, only the row of an answer has it, for each answer is one
+-- case's; the other way, its row allows it, and what is allowed is settled. Assumes nothing.
 use Prim.Native.Nat.{ℕ}
-use mathlib.Core.Path.{_≡_, refl, ap, _∙_}
+use native.Mathlib.Omega.{arith}
+use mathlib.Core.Bool.{Bool, true, false}
+use mathlib.Core.Path.{_≡_, refl, sym, ap, _∙_, subst}
 use mathlib.Core.Logic.{_↔_}
 use mathlib.Core.List.{List, _++_}
+use lib.Dec.{eqb}
 use lib.ListN.{length, drop}
 use lib.Seq.{take-at, drop-at}
-use Rattle.answers.specs.Refusals.{Refusal, not-version-one, bad-length, too-many-words, too-short, broken-layout, no-tree}
-use Rattle.answers.specs.Refusals.{unreached, oversize, not-its-table, few-marks, derivation-short, no-derivation, long-list}
+use Rattle.answers.specs.GrammarRefusals.{broken-layout, no-tree, unreached, oversize}
 use Rattle.answers.specs.Buffers.{over}
-use Rattle.grammar.specs.Words.{Are, FaultAt}
+use Rattle.grammar.specs.Words.{Are, FaultAt, layout, faults}
+use Rattle.grammar.specs.Rows.{GrammarRefused, row-4}
+use Rattle.grammar.specs.Terms.{limit}
 use Rattle.grammar.proofs.LayoutExact.{in-bounds, reads-unique}
 use Rattle.grammar.proofs.FirstOffence.{layout-faults-exact}
-use Rattle.entries.specs.Table.{tableLength}
-use Rattle.tables.specs.Promise.{Tables, Tested, refused, row-4, row-5, row-6, row-7, row-3, done, its}
+use Rattle.entries.specs.Table.{tableLength, Own}
+use Rattle.tables.specs.Answers.{Case, answer, done, of-words, too-short}
+use Rattle.tables.specs.Promise.{Tables, row-4-7, row-3, row-done}
 use Rattle.tables.specs.declared.TableAnswer.{TableAnswer}
-use Rattle.tables.specs.declared.TableAnswer.the-variants.{Done}
-use Rattle.tables.specs.declared.TableTest.the-variants.{Its}
-use Rattle.tables.specs.Given.{Given, GivenDone, Written}
+use Rattle.tables.specs.declared.TableAnswer.the-variants.{Done, Refused}
+use Rattle.tables.specs.Given.{Given, Filled}
 use Rattle.entries.proofs.TableExists.{table-exists}
 use Rattle.tables.proofs.TablesSettles.{tables-settles}
 
+-- the case of an answer
+abbrev pick : Bool → Case → Case → Case
+pick true x y = x
+pick false x y = y
+
+abbrev caseOf : TableAnswer → Case
+caseOf (Done n) = done n
+caseOf (Refused k p) =
+    pick (eqb k 4) (of-words (broken-layout p)) (pick (eqb k 5) (of-words (no-tree p)) (pick (eqb k 6) (of-words (unreached p))
+    (pick (eqb k 7) (of-words (oversize p)) (too-short p))))
+
+case-of : (x : Case) → caseOf (answer x) ≡ x
+case-of (done n) = refl
+case-of (of-words (broken-layout p)) = refl
+case-of (of-words (no-tree A)) = refl
+case-of (of-words (unreached A)) = refl
+case-of (of-words (oversize r)) = refl
+case-of (too-short n) = refl
+
+pub one-case : {x y : Case} → answer x ≡ answer y → x ≡ y
+one-case {x} {y} e = sym (case-of x) ∙ ap caseOf e ∙ case-of y
+
 module _ (words before : List ℕ) where
-  only : {after : List ℕ} (r : Refusal) → Tables words before (refused r) after → Given words before r × (after ≡ before)
-  only (broken-layout p) (row-4 e) = (e, refl)
-  only (no-tree A) (row-5 {g = g} e low) = ((g, e, low), refl)
-  only (unreached A) (row-6 {g = g} e t low) = ((g, e, (t, low)), refl)
-  only (oversize r) (row-7 {g = g} e t u low) = ((g, e, (t, u, low)), refl)
-  only (too-short n) (row-3 {g = g} e t u f l) = ((g, e, (record { trees = t; reached = u; fit = f }, refl, l)), refl)
-  only not-version-one p = elim p [ ]
-  only bad-length p = elim p [ ]
-  only too-many-words p = elim p [ ]
-  only not-its-table p = elim p [ ]
-  only (few-marks n) p = elim p [ ]
-  only (derivation-short n) p = elim p [ ]
-  only (no-derivation q) p = elim p [ ]
-  only long-list p = elim p [ ]
+  -- an answer is that of a case that is given
+  given : {a : TableAnswer} {after : List ℕ} → Tables words before a after → (x : Case) × (a ≡ answer x) × Given words before x
+  given (row-4-7 {x = x} r) = (of-words x, refl, r)
+  given (row-3 {g = g} e a l) = (too-short _, refl, (g, e, (a, refl, l)))
+  given (row-done {g = g} e a l is) = (done _, refl, (g, e, (a, refl, l)))
 
-  allowed : (r : Refusal) → Given words before r → Tables words before (refused r) before
-  allowed (broken-layout p) e = row-4 e
-  allowed (no-tree A) (g, e, low) = row-5 e low
-  allowed (unreached A) (g, e, (t, low)) = row-6 e t low
-  allowed (oversize r) (g, e, (t, u, low)) = row-7 e t u low
-  allowed (too-short n) (g, e, (a, same, l)) = rw same (row-3 e (a .trees) (a .reached) (a .fit) (rw same at l))
-  allowed not-version-one z = absurd z
-  allowed bad-length z = absurd z
-  allowed too-many-words z = absurd z
-  allowed not-its-table z = absurd z
-  allowed (few-marks n) z = absurd z
-  allowed (derivation-short n) z = absurd z
-  allowed (no-derivation p) z = absurd z
-  allowed long-list z = absurd z
+  allowed : (x : Case) → Given words before x → (after : List ℕ) × Tables words before (answer x) after
+  allowed (of-words x) r = (before, row-4-7 r)
+  allowed (too-short n) (g, e, (a, same, l)) = (before, rw same (row-3 e a (rw same at l)))
+  allowed (done n) (g, e, (a, same, l)) =
+      let (table, is) = table-exists g (in-bounds words e) (a .trees) (a .reached) in
+      (over table before, rw same (row-done e a (rw same at l) is))
 
-  only-done : {n : ℕ} {after : List ℕ} → Tables words before (Done n) after → GivenDone words before n × Are words (Written before after)
+  -- "no buffer changes"
+  kept : {k p : ℕ} {a : TableAnswer} {after : List ℕ} → Tables words before a after → a ≡ Refused k p → after ≡ before
+  kept (row-4-7 r) e = refl
+  kept (row-3 e a l) q = refl
+  kept (row-done e a l is) q = absurd (not-refused q)
+    where
+      not-refused : {n k p : ℕ} → Done n ≡ Refused k p → ⊥
+      not-refused e = let z : _≡_ {A = ℕ} 0 1 = cc in omega arith
+
+  filled : {n : ℕ} {after : List ℕ} → Tables words before (Done n) after → Are words (Filled before after)
   unfolding over
-  only-done (done {g = g} {table = table} e t u f l is) =
+  filled (row-done {g = g} {table = table} e a l is) =
       let behind = drop (length table) before in
-      let written : Written before (table ++ behind) g = record {
+      let z : Filled before (table ++ behind) g = record {
         table = rw (take-at table behind (tableLength g) (is .long)) is;
         behind = drop-at table behind (tableLength g) (is .long) ∙ ap (λ (n : ℕ). drop n before) (is .long);
       } in
-      ((g, e, (record { trees = t; reached = u; fit = f }, refl, l)), (g, e, written))
-
-  allowed-done : (n : ℕ) → GivenDone words before n → (after : List ℕ) × Tables words before (Done n) after
-  allowed-done n (g, e, (a, same, l)) =
-      let (table, is) = table-exists g (in-bounds words e) (a .trees) (a .reached) in
-      (over table before, rw same (done e (a .trees) (a .reached) (a .fit) (rw same at l) is))
+      (g, e, z)
 
 module _ {words before after : List ℕ} {a : TableAnswer} (p : Tables words before a after) where
-  -- EXACTLY WHEN, of every refusal and of Done
-  pub tables-refuses : (r : Refusal) → (a ≡ refused r) ↔ Given words before r
-  tables-refuses r = (
-    λ e. only words before r (rw e at p) .0,
-    λ h. tables-settles words before p (allowed words before r h) .0,
-  )
-
-  pub tables-done : (n : ℕ) → (a ≡ Done n) ↔ GivenDone words before n
-  tables-done n = (
-    λ e. only-done words before (rw e at p) .0,
-    λ h. tables-settles words before p (allowed-done words before n h .1) .0,
+  -- EXACTLY WHEN, of every answer
+  pub tables-exactly : (x : Case) → (a ≡ answer x) ↔ Given words before x
+  tables-exactly x = (
+    λ e. let (y, is, g) = given words before p in subst (Given words before) (one-case (sym is ∙ e)) g,
+    λ h. tables-settles words before p (allowed words before x h .1) .0,
   )
 
   -- 4, with the place said of grammars and their words
-  pub tables-first-offence : (q : ℕ) → (a ≡ refused (broken-layout q)) ↔ FaultAt words q
+  pub tables-first-offence : (q : ℕ) → (a ≡ answer (of-words (broken-layout q))) ↔ FaultAt words q
   tables-first-offence q =
-      let (to, from) = tables-refuses (broken-layout q) in
+      let (to, from) = tables-exactly (of-words (broken-layout q)) in
       let (there, back) = layout-faults-exact words q in
-      (λ e. there (to e), λ h. from (back h))
+      (λ e. there (breaks (to e)), λ h. from (row-4 (back h)))
+    where
+      breaks : {q : ℕ} → GrammarRefused limit words (broken-layout q) → layout words ≡ faults q
+      breaks (row-4 e) = e
 
   -- "no buffer changes" at a refusal; at Done the front is the table, and the rest keeps its content
-  pub tables-keeps : (r : Refusal) → a ≡ refused r → after ≡ before
-  tables-keeps r e = only words before r (rw e at p) .1
+  pub tables-keeps : (k q : ℕ) → a ≡ Refused k q → after ≡ before
+  tables-keeps k q e = kept words before p e
 
-  pub tables-writes : (n : ℕ) → a ≡ Done n → Are words (Written before after)
-  tables-writes n e = only-done words before (rw e at p) .1
+  pub tables-writes : (n : ℕ) → a ≡ Done n → Are words (Filled before after)
+  tables-writes n e = filled words before (rw e at p)
 
-  -- so that `test` takes what `tables` wrote
-  pub tables-tested : (n : ℕ) → a ≡ Done n → (rules : ℕ) × Tested words after (Its rules)
-  tables-tested n e =
-      let (g, read, (accepted, same, room)) = tables-done n .0 e in
-      let (h, read′, written) = tables-writes n e in
+  -- so that what was written is the own table of an accepted grammar
+  pub tables-own : (n : ℕ) → a ≡ Done n → Are words (Own after)
+  tables-own n e =
+      let (g, read, (accepted, same, room)) = tables-exactly (done n) .0 e in
+      let (h, read′, z) = tables-writes n e in
       let eq : h ≡ g = reads-unique words read′ read in
-      (_, its read accepted (rw eq at (written .table)))
+      (g, read, (accepted, rw eq at (z .table)))

@@ -8,7 +8,7 @@ use lib.ListN.{length, set}
 use Rattle.grammar.specs.Words.{Grammar, RuleAt}
 use Rattle.grammar.specs.Terms.{measure}
 use Rattle.grammar.specs.Certificates.{Holds, othersSize}
-use Rattle.tables.specs.Figures.{figure, Has, capped, Lowered, LeastsDone, SizesOf, ContextsSound, ContextQuiet}
+use Rattle.tables.specs.Figures.{noFigure, figure, Has, capped, Lowered, LeastsDone, SizesOf, ContextsSound, ContextQuiet}
 use Rattle.layout.specs.View.{View}
 
 -- Over leasts vs, where the symbols below n are nonterminals and whole is the size of a rule and the context of its left side: a
@@ -25,7 +25,7 @@ pub data PlacesStep (n whole : ℕ) (vs : List ℕ) : List ℕ → List ℕ → 
       PlacesStep n whole vs (s ∷ w) us us″ (f + k)
 
 -- Rule k with the left side B and the symbols w. What is seen of a rule is the context that its left side had when it was last
--- tried, and 65535 where it never was: where that is the context that B has, the rule is passed over.
+-- tried, and noFigure where it never was: where that is the context that B has, the rule is passed over.
 pub data ContextStep (n size : ℕ) (vs : List ℕ) (k B : ℕ) (w us seen : List ℕ) : List ℕ → List ℕ → ℕ → Type 0 where
   as-seen : figure us B ≡ figure seen k → ContextStep n size vs k B w us seen us seen 0
   unseen : {us′ : List ℕ} {f : ℕ} → k < length seen → figure us B ≤ 65535 → ¬ (figure us B ≡ figure seen k) →
@@ -33,7 +33,7 @@ pub data ContextStep (n size : ℕ) (vs : List ℕ) (k B : ℕ) (w us seen : Lis
 
 -- A rule B ⟶ w that was tried with this context of B lowers no context until that of B falls; and B has one.
 pub record Tried (g : Grammar) (vs us : List ℕ) (B : ℕ) (w : List ℕ) (context : ℕ) : Type 0 where
-  pub has : figure us B < 65535
+  pub has : figure us B < noFigure
   pub low : (i A : ℕ) → Holds w i A → A < g .N → figure us A ≤ capped (context + (1 + othersSize measure g (figure vs) w i))
 
 -- what is known of the contexts, and of what is seen

@@ -4,10 +4,10 @@
 use Prim.Native.Nat.{ℕ, _<_}
 use mathlib.Core.Path.{_≡_}
 use mathlib.Core.Logic.{_⊎_}
-use Rattle.answers.specs.Refusals.{no-tree, unreached}
+use Rattle.answers.specs.GrammarRefusals.{no-tree, unreached}
 use Rattle.grammar.specs.Words.{Grammar}
 use Rattle.grammar.specs.Tree.{Tree, StandsIn}
-use Rattle.tables.specs.Promise.{refused}
+use Rattle.tables.specs.Answers.{answer, of-words}
 use Rattle.tables.specs.declared.TableAnswer.{TableAnswer}
 
 pub record Dead (g : Grammar) : Type 0 where
@@ -17,4 +17,4 @@ pub record Dead (g : Grammar) : Type 0 where
 
 -- the answer is 5, or 6
 abbrev pub SaysDead : TableAnswer → Type 0
-SaysDead a = (A : ℕ) × ((a ≡ refused (no-tree A)) ⊎ (a ≡ refused (unreached A)))
+SaysDead a = (A : ℕ) × ((a ≡ answer (of-words (no-tree A))) ⊎ (a ≡ answer (of-words (unreached A))))

@@ -1,6 +1,6 @@
 -- For the private functions: what stands in their arrays while the table is worked out. Nobody has to believe this file; the
 -- promises do not cite it. A figure is a word of an array, one for each nonterminal: the least or the context found so far, cut
--- at 4,097, or 65535 where none is found yet. That is no figure, and no cut makes one of it. Past the end of the array there is
+-- at 4,097, or `noFigure` where none is found yet. That is no figure, and no cut makes one of it. Past the end of the array there is
 -- none either.
 -- Assumes nothing.
 use Prim.Native.Nat.{ℕ, _+_, _-_, _*_, _≤_, _<_, min}
@@ -16,11 +16,15 @@ use Rattle.grammar.specs.Caps.{OfTree, OfOpen, ceiling, measureCap}
 use Rattle.tables.specs.declared.figures.Found.{Found}
 use Rattle.tables.specs.declared.figures.Found.the-variants.{At, Nothing}
 
+-- stands where there is no figure
+abbrev pub noFigure : ℕ
+noFigure = 65535
+
 abbrev pub figure : List ℕ → ℕ → ℕ
-figure xs A = getD xs A 65535
+figure xs A = getD xs A noFigure
 
 abbrev pub Has : List ℕ → ℕ → Type 0
-Has xs A = ¬ (figure xs A ≡ 65535)
+Has xs A = ¬ (figure xs A ≡ noFigure)
 
 abbrev pub capped : ℕ → ℕ
 capped x = min x ceiling
@@ -104,34 +108,6 @@ pub record ContextsRest (g : Grammar) (vs us : List ℕ) : Type 0 where
 abbrev pub TotalsOf : Grammar → List ℕ → List ℕ → List ℕ → Type 0
 TotalsOf g us sizes totals = (k A : ℕ) (w : List ℕ) → RuleAt g k A w → getD totals k 0 ≡ capped (figure us A + getD sizes k 0)
 
--- CHOICES. At the outset no nonterminal has one, and the array has room for every nonterminal.
-abbrev pub Empty : List ℕ → Type 0
-Empty xs = xs ≡ replicate 128 65535
-
--- The first number below n with a property, or 65535 where none has it.
-pub data First (P : ℕ → Type 0) (n : ℕ) : ℕ → Type 0 where
-  none-has : ((k : ℕ) → k < n → ¬ P k) → First P n 65535
-  first : {k : ℕ} → k < n → P k → ((j : ℕ) → j < k → ¬ P j) → First P n k
-
--- rule k is one of A, and its size is A's least
-pub record RuleFits (g : Grammar) (vs sizes : List ℕ) (A k : ℕ) : Type 0 where
-  pub w : List ℕ
-  pub rule : RuleAt g k A w
-  pub same : figure vs A ≡ getD sizes k 0
-
-abbrev pub ChosenOf : Grammar → List ℕ → List ℕ → List ℕ → ℕ → Type 0
-ChosenOf g vs sizes chosen n = (A : ℕ) → A < g .N → First (RuleFits g vs sizes A) n (figure chosen A)
-
--- rule k has A at place i, the two as one number 32 k + i, and the rule's total is the least of A and the context of A
-pub record PlaceFits (g : Grammar) (vs us totals : List ℕ) (A q : ℕ) : Type 0 where
-  pub k : ℕ
-  pub i : ℕ
-  pub is : q ≡ 32 * k + i
-  pub B : ℕ
-  pub w : List ℕ
-  pub rule : RuleAt g k B w
-  pub holds : Holds w i A
-  pub same : figure vs A + figure us A ≡ getD totals k 0
-
-abbrev pub PlacesOf : Grammar → List ℕ → List ℕ → List ℕ → List ℕ → ℕ → Type 0
-PlacesOf g vs us totals leads n = (A : ℕ) → A < g .N → First (PlaceFits g vs us totals A) n (figure leads A)
+-- at the outset no nonterminal has a figure, and the array has room for every nonterminal
+abbrev pub NoFigures : List ℕ → Type 0
+NoFigures xs = xs ≡ replicate 128 noFigure

@@ -3,21 +3,24 @@
 ghost use mathlib.Core.Path.{_≡_};
 ghost use Rattle.tables.specs.Promise.{Tables};
 ghost use Rattle.layout.specs.View.{Begun};
-ghost use Rattle.tables.specs.Rows.{Grown, Placed};
+ghost use Prim.Native.Nat.{_≤_};
+ghost use lib.ListN.{length};
+ghost use Rattle.entries.specs.Table.{lengthFor, entry};
+ghost use Rattle.tables.specs.Rows.{Grown, Placed, Finished};
 use crate::TableAnswer;
-use crate::choices::choose_places;
+use crate::choices::choose_leads;
 use crate::choices::choose_rules;
 use crate::contexts::context_rounds;
 use crate::contexts::rule_totals;
 use crate::figures::Found;
-use crate::figures::NONE;
+use crate::figures::NO_FIGURE;
 use crate::figures::OVER;
 use crate::figures::first_above;
+use crate::fill::fill;
 use crate::leasts::least_rounds;
-use crate::written::write;
-
-// The largest total that is accepted.
-const LIMIT: usize = 4096;
+use cells::narrow;
+use entries::LIMIT;
+use entries::NO_CHOICE;
 
 fn refuse(number: u16, place: usize) -> TableAnswer
     ensures { λ r. ⌜ r ≡ TableAnswer.Refused number place ⌝ }
@@ -37,7 +40,7 @@ pub fn of_grammar(
     requires { ⌜ Begun (now words) (now places) n start rules ⌝ }
     ensures { λ r. ⌜ Tables (now (words .entry)) (now (table .entry)) r (now (table .exit)) ⌝ }
 {
-    let mut leasts = [NONE; 128];
+    let mut leasts = [NO_FIGURE; 128];
     let mut sizes = [0u32; 256];
     least_rounds(words, places, n, rules, &mut leasts, &mut sizes);
     if let Found::At(a) = first_above(&leasts, n, OVER as usize) {
@@ -60,7 +63,7 @@ fn of_leasts(
     requires { ⌜ Grown (now words) (now places) n start rules (now leasts) (now sizes) ⌝ }
     ensures { λ r. ⌜ Tables (now (words .entry)) (now (table .entry)) r (now (table .exit)) ⌝ }
 {
-    let mut contexts = [NONE; 128];
+    let mut contexts = [NO_FIGURE; 128];
     contexts[start] = 0;
     context_rounds(words, places, n, rules, sizes, leasts, &mut contexts);
     if let Found::At(a) = first_above(&contexts, n, OVER as usize) {
@@ -88,23 +91,53 @@ fn of_contexts(
     if let Found::At(r) = first_above(&totals, rules, LIMIT) {
         return refuse(answers::OVERSIZE, r);
     }
-    let needed = 5 * n + rules;
+    let needed = entries::length(narrow(n), narrow(rules));
     if table.len() < needed {
         return refuse(answers::TOO_SHORT, needed);
     }
-    let mut chosen = [NONE; 128];
+    finish(
+        words,
+        places,
+        n,
+        rules,
+        leasts,
+        sizes,
+        contexts,
+        &totals,
+        table,
+    );
+    TableAnswer::Done(needed)
+}
+
+// The choices, and the words: there is room for them.
+fn finish(
+    words: &[u16],
+    places: &[u16],
+    n: usize,
+    rules: usize,
+    leasts: &[u16],
+    sizes: &[u32; 256],
+    contexts: &[u16],
+    totals: &[u16; 256],
+    table: &mut [u16],
+)
+    requires { ⌜ Placed (now words) (now places) n rules (now leasts) (now sizes) (now contexts) ⌝ }
+    requires { ⌜ lengthFor n rules ≤ length (now table) ⌝ }
+    ensures { λ _. ⌜ Finished (now (words .entry)) (now (places .entry)) n rules (now (leasts .entry)) (now (sizes .entry))
+        (now (contexts .entry)) (now (totals .entry)) (now (table .entry)) (now (table .exit)) ⌝ }
+{
+    let mut chosen = [NO_CHOICE; 128];
     choose_rules(words, places, rules, leasts, sizes, &mut chosen);
-    let mut leads = [NONE; 128];
-    choose_places(
+    let mut leads = [NO_CHOICE; 128];
+    choose_leads(
         words,
         places,
         n,
         rules,
         leasts,
         contexts,
-        &totals,
+        totals,
         &mut leads,
     );
-    write(n, rules, leasts, &chosen, contexts, &leads, &totals, table);
-    TableAnswer::Done(needed)
+    fill(n, rules, leasts, &chosen, contexts, &leads, totals, table);
 }

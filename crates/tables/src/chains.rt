@@ -9,7 +9,8 @@ ghost use Rattle.layout.specs.View.{View};
 ghost use Rattle.tables.specs.LeastSteps.{QuietIfSound};
 ghost use Rattle.tables.specs.ContextSteps.{Known, Stands, SeenTurn};
 use crate::contexts::context_of_rule;
-use crate::figures::NONE;
+use crate::figures::Counts;
+use crate::figures::NO_FIGURE;
 use crate::figures::figure_at;
 use crate::leasts::lower_least;
 use layout::rules;
@@ -69,7 +70,7 @@ fn later(found: usize, s: usize, n: usize) -> usize {
 
 // The last nonterminal of few symbols; 65535 where there is none.
 fn link(symbols: &[u16], n: usize) -> usize {
-    let mut found = NONE as usize;
+    let mut found = NO_FIGURE as usize;
     if FEW < symbols.len() {
         return found;
     }
@@ -145,8 +146,7 @@ pub fn least_turn(
 fn follow_context(
     words: &[u16],
     places: &[u16],
-    n: usize,
-    rules: usize,
+    counts: Counts,
     sizes: &[u32; 256],
     owned: &[u16],
     seen: &mut [u16],
@@ -154,24 +154,24 @@ fn follow_context(
     leasts: &[u16],
     contexts: &mut [u16],
 )
-    requires { ⌜ (rules ≤ 256) × ((256 ≤ length (now seen)) × (128 ≤ length (now contexts))) ⌝ }
-    requires { ⌜ ((g : Grammar) × Known (now words) (now places) n rules (now sizes) (now leasts) g) ⌝ }
+    requires { ⌜ (counts .rules ≤ 256) × ((256 ≤ length (now seen)) × (128 ≤ length (now contexts))) ⌝ }
+    requires { ⌜ ((g : Grammar) × Known (now words) (now places) (counts .n) (counts .rules) (now sizes) (now leasts) g) ⌝ }
     ensures { λ _. ⌜ Fallen (now (contexts .entry)) (now (contexts .exit)) 0 ⌝ }
     ensures { λ _. ⌜ ((g : Grammar) →
-        Known (now (words .entry)) (now (places .entry)) n rules (now (sizes .entry)) (now (leasts .entry)) g →
+        Known (now (words .entry)) (now (places .entry)) (counts .n) (counts .rules) (now (sizes .entry)) (now (leasts .entry)) g →
         Stands g (now (leasts .entry)) (now (contexts .entry)) (now (seen .entry)) →
         Stands g (now (leasts .entry)) (now (contexts .exit)) (now (seen .exit))) ⌝ }
 {
     let mut r = from;
-    while r < rules {
+    while r < counts.rules {
         let at = rules::index(places, r);
         let symbols = rules::right(words, at);
         let left = word(words, at);
-        let fell = context_of_rule(left, symbols, n, sizes[r], r, seen, leasts, contexts);
+        let fell = context_of_rule(left, symbols, counts.n, sizes[r], r, seen, leasts, contexts);
         if fell == 0 {
             return;
         }
-        r = figure_at(owned, link(symbols, n));
+        r = figure_at(owned, link(symbols, counts.n));
     }
 }
 
@@ -179,8 +179,7 @@ fn follow_context(
 pub fn context_turn(
     words: &[u16],
     places: &[u16],
-    n: usize,
-    rules: usize,
+    counts: Counts,
     sizes: &[u32; 256],
     owned: &[u16],
     seen: &mut [u16],
@@ -188,27 +187,26 @@ pub fn context_turn(
     leasts: &[u16],
     contexts: &mut [u16],
 ) -> usize
-    requires { ⌜ (rules ≤ 256) × ((r < rules) × ((256 ≤ length (now seen)) × (128 ≤ length (now contexts)))) ⌝ }
-    requires { ⌜ ((g : Grammar) × Known (now words) (now places) n rules (now sizes) (now leasts) g) ⌝ }
+    requires { ⌜ (counts .rules ≤ 256) × ((r < counts .rules) × ((256 ≤ length (now seen)) × (128 ≤ length (now contexts)))) ⌝ }
+    requires { ⌜ ((g : Grammar) × Known (now words) (now places) (counts .n) (counts .rules) (now sizes) (now leasts) g) ⌝ }
     ensures { λ fell. ⌜ (fell ≤ 1) × Fallen (now (contexts .entry)) (now (contexts .exit)) fell ⌝ }
     ensures { λ fell. ⌜ ((g : Grammar) →
-        Known (now (words .entry)) (now (places .entry)) n rules (now (sizes .entry)) (now (leasts .entry)) g →
+        Known (now (words .entry)) (now (places .entry)) (counts .n) (counts .rules) (now (sizes .entry)) (now (leasts .entry)) g →
         SeenTurn g (now (leasts .entry)) r (now (contexts .entry)) (now (seen .entry))
         (now (contexts .exit)) (now (seen .exit)) fell) ⌝ }
 {
     let at = rules::index(places, r);
     let symbols = rules::right(words, at);
     let left = word(words, at);
-    let fell = context_of_rule(left, symbols, n, sizes[r], r, seen, leasts, contexts);
+    let fell = context_of_rule(left, symbols, counts.n, sizes[r], r, seen, leasts, contexts);
     if fell == 0 {
         return 0;
     }
-    let next = figure_at(owned, link(symbols, n));
+    let next = figure_at(owned, link(symbols, counts.n));
     follow_context(
         words,
         places,
-        n,
-        rules,
+        counts,
         sizes,
         owned,
         seen,

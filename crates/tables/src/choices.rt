@@ -3,11 +3,12 @@ ghost use mathlib.Core.Path.{_≡_};
 ghost use Prim.Native.Nat.{ℕ, _+_, _*_, _≤_, _<_};
 ghost use lib.ListN.{length};
 ghost use Rattle.grammar.specs.Words.{Grammar};
-ghost use Rattle.tables.specs.Figures.{figure, Empty, ChosenOf, PlacesOf};
+ghost use Rattle.tables.specs.Figures.{figure};
+ghost use Rattle.tables.specs.Choices.{NoChoices, ChosenOf, LeadsOf};
 ghost use Rattle.layout.specs.View.{View};
-ghost use Rattle.tables.specs.Noted.{Noted, NotedWhere, PlacesNoted};
-use crate::figures::NONE;
+ghost use Rattle.tables.specs.Choices.{Noted, NotedWhere, LeadsNoted};
 use crate::figures::figure_at;
+use entries::NO_CHOICE;
 use layout::rules;
 use layout::words::word;
 
@@ -16,7 +17,7 @@ fn note(numbers: &mut [u16], a: usize, number: u16)
     ensures { λ _. ⌜ Noted (now (numbers .entry)) a number (now (numbers .exit)) ⌝ }
 {
     if a < numbers.len() {
-        if numbers[a] == NONE {
+        if numbers[a] == NO_CHOICE {
             numbers[a] = number;
         }
     }
@@ -42,7 +43,7 @@ pub fn choose_rules(
 )
     requires { ⌜ rules ≤ 256 ⌝ }
     ensures { λ _. ⌜ ((g : Grammar) (n : ℕ) → View (now (words .entry)) (now (places .entry)) n rules g →
-        Empty (now (chosen .entry)) →
+        NoChoices (now (chosen .entry)) →
         ChosenOf g (now (leasts .entry)) (now (sizes .entry)) (now (chosen .exit)) rules) ⌝ }
 {
     let mut r = 0;
@@ -55,7 +56,7 @@ pub fn choose_rules(
 
 // Notes a place, where symbol s stands in a rule of this total, as that of its context: where s is a nonterminal and the total is
 // its least and its context.
-fn choose_place(
+fn choose_lead(
     s: usize,
     n: usize,
     place: u16,
@@ -70,7 +71,7 @@ fn choose_place(
 {
     if s < n {
         if (leasts[s] as usize) + (contexts[s] as usize) == total as usize {
-            if leads[s] == NONE {
+            if leads[s] == NO_CHOICE {
                 leads[s] = place;
             }
         }
@@ -78,7 +79,7 @@ fn choose_place(
 }
 
 // The same at each symbol of rule r; a place's number is 32 r and the place.
-fn choose_places_of(
+fn choose_leads_of(
     symbols: &[u16],
     n: usize,
     r: usize,
@@ -89,12 +90,12 @@ fn choose_places_of(
 )
     requires { ⌜ (length (now symbols) ≤ 32) × (r < 256) ⌝ }
     requires { ⌜ (n ≤ length (now leasts)) × ((n ≤ length (now contexts)) × (n ≤ length (now leads))) ⌝ }
-    ensures { λ _. ⌜ PlacesNoted (now (symbols .entry)) n r total
+    ensures { λ _. ⌜ LeadsNoted (now (symbols .entry)) n r total
         (now (leasts .entry)) (now (contexts .entry)) (now (leads .entry)) (now (leads .exit)) ⌝ }
 {
     let mut i = 0;
     while i < symbols.len() {
-        choose_place(
+        choose_lead(
             symbols[i] as usize,
             n,
             (32 * r + i) as u16,
@@ -108,7 +109,7 @@ fn choose_places_of(
 }
 
 // The first rule and place of each nonterminal that give its context, as one number.
-pub fn choose_places(
+pub fn choose_leads(
     words: &[u16],
     places: &[u16],
     n: usize,
@@ -122,12 +123,12 @@ pub fn choose_places(
     requires { ⌜ (n ≤ length (now leasts)) × ((n ≤ length (now contexts)) × (n ≤ length (now leads))) ⌝ }
     requires { ⌜ ((g : Grammar) × View (now words) (now places) n rules g) ⌝ }
     ensures { λ _. ⌜ ((g : Grammar) → View (now (words .entry)) (now (places .entry)) n rules g →
-        Empty (now (leads .entry)) →
-        PlacesOf g (now (leasts .entry)) (now (contexts .entry)) (now (totals .entry)) (now (leads .exit)) (32 * rules)) ⌝ }
+        NoChoices (now (leads .entry)) →
+        LeadsOf g (now (leasts .entry)) (now (contexts .entry)) (now (totals .entry)) (now (leads .exit)) (32 * rules)) ⌝ }
 {
     let mut r = 0;
     while r < rules {
-        choose_places_of(
+        choose_leads_of(
             rules::right(words, rules::index(places, r)),
             n,
             r,

@@ -10,10 +10,12 @@ ghost use Rattle.tables.specs.Figures.{ContextsSound, ContextsRest, Tota
 ghost use Rattle.tables.specs.ContextSteps.{PlaceStep, PlacesStep, ContextStep, SeenRound, Known};
 use crate::chains::context_turn;
 use crate::chains::note_rules;
-use crate::figures::NONE;
+use crate::figures::Counts;
+use crate::figures::NO_FIGURE;
 use crate::figures::cap;
 use crate::figures::figure_at;
 use crate::figures::in_turn;
+use entries::NO_CHOICE;
 use layout::rules;
 use layout::words::word;
 
@@ -101,8 +103,7 @@ pub fn context_of_rule(
 fn context_round(
     words: &[u16],
     places: &[u16],
-    n: usize,
-    rules: usize,
+    counts: Counts,
     sizes: &[u32; 256],
     owned: &[u16],
     seen: &mut [u16],
@@ -110,23 +111,22 @@ fn context_round(
     leasts: &[u16],
     contexts: &mut [u16],
 ) -> usize
-    requires { ⌜ (rules ≤ 256) × ((256 ≤ length (now seen)) × (128 ≤ length (now contexts))) ⌝ }
-    requires { ⌜ ((g : Grammar) × Known (now words) (now places) n rules (now sizes) (now leasts) g) ⌝ }
+    requires { ⌜ (counts .rules ≤ 256) × ((256 ≤ length (now seen)) × (128 ≤ length (now contexts))) ⌝ }
+    requires { ⌜ ((g : Grammar) × Known (now words) (now places) (counts .n) (counts .rules) (now sizes) (now leasts) g) ⌝ }
     ensures { λ r. ⌜ Fallen (now (contexts .entry)) (now (contexts .exit)) r ⌝ }
     ensures { λ r. ⌜ ((g : Grammar) →
-        Known (now (words .entry)) (now (places .entry)) n rules (now (sizes .entry)) (now (leasts .entry)) g →
-        SeenRound g (now (leasts .entry)) rules (now (contexts .entry)) (now (seen .entry))
+        Known (now (words .entry)) (now (places .entry)) (counts .n) (counts .rules) (now (sizes .entry)) (now (leasts .entry)) g →
+        SeenRound g (now (leasts .entry)) (counts .rules) (now (contexts .entry)) (now (seen .entry))
         (now (contexts .exit)) (now (seen .exit)) r) ⌝ }
 {
     let mut fell = 0;
     let mut i = 0;
-    while i < rules {
-        let r = in_turn(i, rules, up);
+    while i < counts.rules {
+        let r = in_turn(i, counts.rules, up);
         fell += context_turn(
             words,
             places,
-            n,
-            rules,
+            counts,
             sizes,
             owned,
             seen,
@@ -155,17 +155,17 @@ pub fn context_rounds(
         LeastsDone g (now (leasts .entry)) → SizesOf g (now (leasts .entry)) (now (sizes .entry)) →
         ContextsSound g (now (contexts .entry)) → ContextsRest g (now (leasts .entry)) (now (contexts .exit))) ⌝ }
 {
-    let mut owned = [NONE; 128];
+    let mut owned = [NO_CHOICE; 128];
     note_rules(words, places, rules, &mut owned);
-    let mut seen = [NONE; 256];
+    let mut seen = [NO_FIGURE; 256];
+    let counts = Counts { n, rules };
     let mut fell = 1;
     let mut up = true;
     while 0 < fell {
         fell = context_round(
             words,
             places,
-            n,
-            rules,
+            counts,
             sizes,
             &owned,
             &mut seen,

@@ -1,13 +1,19 @@
-// Figures: the sizes found so far, one word for each nonterminal, cut at 4,097. 65535 is no figure: none is found yet.
+// Figures: the sizes found so far, one word for each nonterminal, cut at 4,097. NO_FIGURE is none: none is found yet.
 ghost use mathlib.Core.Path.{_≡_};
 ghost use Prim.Native.Nat.{_≤_, _<_};
 ghost use Rattle.tables.specs.Figures.{figure, capped, Lowered, FirstAbove, turn};
 
-// Stands where there is no figure yet; in the table, where there is no context rule and place.
-pub const NONE: u16 = 65535;
+// Stands where there is no figure yet.
+pub const NO_FIGURE: u16 = 65535;
 
-// Stands for every size above the largest that is accepted.
+// Stands for every size above the limit.
 pub const OVER: u16 = 4097;
+
+// How many nonterminals and rules a grammar has.
+pub struct Counts {
+    pub n: usize,
+    pub rules: usize,
+}
 
 // A place, or nothing.
 pub enum Found {
@@ -15,7 +21,7 @@ pub enum Found {
     Nothing,
 }
 
-// The figure at a, and NONE past the end.
+// The figure at a, and NO_FIGURE past the end.
 pub fn figure_at(figures: &[u16], a: usize) -> usize
     ensures { λ r. ⌜ r ≡ figure (now (figures .entry)) a ⌝ }
     ensures { λ r. ⌜ r ≤ 65535 ⌝ }
@@ -23,7 +29,7 @@ pub fn figure_at(figures: &[u16], a: usize) -> usize
     if a < figures.len() {
         figures[a] as usize
     } else {
-        NONE as usize
+        NO_FIGURE as usize
     }
 }
 

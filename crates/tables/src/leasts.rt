@@ -7,10 +7,11 @@ ghost use Rattle.layout.specs.View.{View};
 ghost use Rattle.tables.specs.LeastSteps.{QuietIfSound, Sized, LeastStep, SizeStep, Rounded, Settled, LeastsSized};
 use crate::chains::least_turn;
 use crate::chains::note_users;
-use crate::figures::NONE;
+use crate::figures::NO_FIGURE;
 use crate::figures::cap;
 use crate::figures::in_turn;
 use crate::figures::lower;
+use entries::NO_CHOICE;
 use layout::rules;
 
 // What a rule comes to by the leasts so far: a size, or none where a symbol of it has none yet.
@@ -30,7 +31,7 @@ fn rule_size(symbols: &[u16], n: usize, leasts: &[u16]) -> Size
         let s = symbols[i] as usize;
         if s < n {
             let size = leasts[s] as usize;
-            if size == NONE as usize {
+            if size == NO_FIGURE as usize {
                 return Size::NotYet;
             }
             sum += size;
@@ -178,7 +179,7 @@ pub fn least_rounds(
     ensures { λ _. ⌜ ((g : Grammar) → View (now (words .entry)) (now (places .entry)) n rules g →
         LeastsSound g (now (leasts .entry)) → LeastsSized g (now (leasts .exit)) (now (sizes .exit))) ⌝ }
 {
-    let mut users = [NONE; 128];
+    let mut users = [NO_CHOICE; 128];
     note_users(words, places, rules, &mut users);
     let fell = least_round(words, places, n, rules, &users, false, leasts);
     if sizes_settle(words, places, n, rules, leasts, sizes) {

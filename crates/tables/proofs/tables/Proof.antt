@@ -2,7 +2,8 @@
 -- Assumes nothing.
 use borrow.Author.Needs.{needs}
 use Rattle.layout.proofs.WordsRead.{broken-of, begun-of}
-use Rattle.tables.specs.Promise.{row-4}
+use Rattle.grammar.specs.Rows.{row-4}
+use Rattle.tables.specs.Promise.{row-4-7}
 use Rattle.tables.proofs.tables.Statement.{statement}
 use Rattle.tables.proofs.tables.Tie as tie
 
@@ -17,11 +18,11 @@ enum-known-answer-2 c = search needs
 
 of-grammar-requires : tie.Need-of-grammar-requires
 of-grammar-requires c κs =
-    let read = c .before .before .before .before .before .before .read in
-    begun-of _ (read .ensures .0) (read .ensures .1) (c .before .before .before .before .answer2 .given .1)
+    let read = c .before .before .before .before .before .before .before .read in
+    begun-of _ (read .ensures .0) (read .ensures .1) (c .before .before .before .before .before .answer2 .given .1)
 
 returns : tie.Need-returns
-returns c = row-4 (broken-of _ (c .before .before .before .read .ensures .0) (c .before .answer .given .1))
+returns c = row-4-7 (row-4 (broken-of _ (c .before .before .before .read .ensures .0) (c .before .answer .given .1)))
 
 same-length : tie.Need-same-length
 same-length c = search needs

@@ -1,12 +1,12 @@
--- `tables::worked_out::of_grammar` meets its contract: row 5, or every nonterminal has a least, by Outcomes.
+-- `tables::build::of_grammar` meets its contract: row 5, or every nonterminal has a least, by Outcomes.
 -- Assumes nothing.
 use mathlib.Core.Path.{refl}
 use native.Mathlib.Omega.{arith}
 use Rattle.layout.proofs.WordsRead.{view-few}
 use Rattle.tables.proofs.Outcomes.{leasts-start, refuses-5, grown}
 use borrow.Author.Needs.{needs}
-use Rattle.tables.proofs.worked_out.of_grammar.Statement.{statement}
-use Rattle.tables.proofs.worked_out.of_grammar.Tie as tie
+use Rattle.tables.proofs.build.of_grammar.Statement.{statement}
+use Rattle.tables.proofs.build.of_grammar.Tie as tie
 
 slice-aggregate-least-rounds : tie.Need-slice-aggregate-least-rounds
 slice-aggregate-least-rounds c = search needs
@@ -16,7 +16,7 @@ slice-aggregate-least-rounds-2 c = search needs
 
 least-rounds-requires : tie.Need-least-rounds-requires
 least-rounds-requires c κs =
-    let p = c .before .before .before .before .pre in
+    let p = c .before .before .before .before .before .pre in
     let few = view-few (p .view) in
     ((omega (arith, few), search needs, search needs), (p .grammar, p .view))
 
@@ -39,7 +39,7 @@ returns : tie.Need-returns
 returns c =
     let searched = c .before .before .before .before in
     let rounds = searched .before .before .before .before in
-    let p = rounds .before .before .before .before .before .pre in
+    let p = rounds .before .before .before .before .before .before .pre in
     let sized = rounds .least-rounds .ensures (p .grammar) (p .view) (leasts-start p refl) in
     let found = c .before .before .a .given .1 in
     refuses-5 (p .grammar) (p .view) (p .first) sized (searched .first-above .ensures) found (c .refuse .ensures)
@@ -54,7 +54,7 @@ of-leasts-requires : tie.Need-of-leasts-requires
 of-leasts-requires c κs =
     let searched = c .before .before .before .before .before in
     let rounds = searched .before .before .before .before in
-    let p = rounds .before .before .before .before .before .pre in
+    let p = rounds .before .before .before .before .before .before .pre in
     let sized = rounds .least-rounds .ensures (p .grammar) (p .view) (leasts-start p refl) in
     grown (p .grammar) (p .view) (p .first) sized (searched .first-above .ensures) (c .before .before .before .enum-told .given .1)
 

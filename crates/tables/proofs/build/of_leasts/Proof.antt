@@ -1,4 +1,4 @@
--- `tables::worked_out::of_leasts` meets its contract: row 6, or every nonterminal has a context, by Outcomes.
+-- `tables::build::of_leasts` meets its contract: row 6, or every nonterminal has a context, by Outcomes.
 -- Assumes nothing.
 use mathlib.Core.Path.{refl}
 use native.Mathlib.Omega.{arith}
@@ -6,21 +6,21 @@ use borrow.Author.Needs.{needs}
 use lib.ListN.{length-set}
 use Rattle.layout.proofs.WordsRead.{view-few}
 use Rattle.tables.proofs.Outcomes.{start-few, contexts-start, refuses-6, placed}
-use Rattle.tables.proofs.worked_out.of_leasts.Statement.{statement}
-use Rattle.tables.proofs.worked_out.of_leasts.Tie as tie
+use Rattle.tables.proofs.build.of_leasts.Statement.{statement}
+use Rattle.tables.proofs.build.of_leasts.Tie as tie
 
 mul-contexts : tie.Need-mul-contexts
-mul-contexts c = omega (arith, start-few (c .before .before .before .pre))
+mul-contexts c = omega (arith, start-few (c .before .before .before .before .pre))
 
 array-write-contexts : tie.Need-array-write-contexts
-array-write-contexts c = start-few (c .before .before .before .pre)
+array-write-contexts c = start-few (c .before .before .before .before .pre)
 
 slice-aggregate-context-rounds : tie.Need-slice-aggregate-context-rounds
 slice-aggregate-context-rounds c = search needs
 
 context-rounds-requires : tie.Need-context-rounds-requires
 context-rounds-requires c κs =
-    let p = c .before .before .before .before .pre in
+    let p = c .before .before .before .before .before .pre in
     let few = view-few (p .view) in
     ((omega (arith, few), simp length-set (search needs)), (p .grammar, record { view = p .view; done = p .leasts; sized = p .sizes-are }))
 
@@ -43,7 +43,7 @@ returns : tie.Need-returns
 returns c =
     let searched = c .before .before .before .before in
     let rounds = searched .before .before .before in
-    let p = rounds .before .before .before .before .before .pre in
+    let p = rounds .before .before .before .before .before .before .pre in
     let rest = rounds .context-rounds .ensures (p .grammar) (p .view) (p .leasts) (p .sizes-are) (contexts-start p refl) in
     refuses-6 p rest (searched .first-above .ensures) (c .before .before .a .given .1) (c .refuse .ensures)
 
@@ -57,7 +57,7 @@ of-contexts-requires : tie.Need-of-contexts-requires
 of-contexts-requires c κs =
     let searched = c .before .before .before .before in
     let rounds = searched .before .before .before in
-    let p = rounds .before .before .before .before .before .pre in
+    let p = rounds .before .before .before .before .before .before .pre in
     let rest = rounds .context-rounds .ensures (p .grammar) (p .view) (p .leasts) (p .sizes-are) (contexts-start p refl) in
     placed p rest (searched .first-above .ensures) (c .before .before .enum-told .given .1)
 

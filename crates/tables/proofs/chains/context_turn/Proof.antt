@@ -30,9 +30,9 @@ context-of-rule-requires c κs =
     let right = word .before in
     let index = right .before in
     let start = index .before .before .before .before .before .before in
-    let p = start .pre .0 in
-    let (g, known) = start .pre .1 in
-    let small : start .args .r < 256 = omega (arith, p .0, p .1 .0) in
+    let p = start .before .pre .0 in
+    let (g, known) = start .before .pre .1 in
+    let small : start .before .args .r < 256 = omega (arith, p .0, p .1 .0) in
     let is = index .index .ensures in
     let long = p .1 .1 .1 in (
       (right .right .ensures .1, (left-room known (p .1 .0) long is (word .word .ensures), omega (arith, small, p .1 .1 .0))),
@@ -52,8 +52,8 @@ returns c =
     let right = word .before in
     let index = right .before in
     let start = index .before .before .before .before .before .before in
-    let p = start .pre .0 in
-    let small : start .args .r < 256 = omega (arith, p .0, p .1 .0) in (
+    let p = start .before .pre .0 in
+    let small : start .before .args .r < 256 = omega (arith, p .0, p .1 .0) in (
       (omega arith, omega (arith, context-fallen (lowered .context-of-rule .ensures), c .if1 .taken)),
       λ g known.
           context-alone known (p .1 .0) (p .1 .1 .1) (index .index .ensures) (word .word .ensures)
@@ -70,9 +70,9 @@ follow-context-requires : tie.Need-follow-context-requires
 follow-context-requires c κs =
     let lowered = c .before .before .before .before .before .before .before .before .before in
     let start = lowered .before .before .before .before .before .before .before .before .before .before .before .before in
-    let p = start .pre .0 in
+    let p = start .before .pre .0 in
     let seen = lowered .context-of-rule .kept .1 .1 .1 .1 .1 in
-    ((p .0, (omega (arith, p .1 .1 .0, seen .0), omega (arith, p .1 .1 .1, seen .1 .1 .0))), start .pre .1)
+    ((p .0, (omega (arith, p .1 .1 .0, seen .0), omega (arith, p .1 .1 .1, seen .1 .1 .0))), start .before .pre .1)
 
 same-length-3 : tie.Need-same-length-3
 same-length-3 c = search needs
@@ -89,8 +89,8 @@ returns-2 c =
     let right = word .before in
     let index = right .before in
     let start = index .before .before .before .before .before .before in
-    let p = start .pre .0 in
-    let small : start .args .r < 256 = omega (arith, p .0, p .1 .0) in
+    let p = start .before .pre .0 in
+    let small : start .before .args .r < 256 = omega (arith, p .0, p .1 .0) in
     let first = context-fallen (lowered .context-of-rule .ensures) in (
       (omega arith, omega (arith, first, followed .follow-context .ensures .0, fell .if1 .left)),
       λ g known.

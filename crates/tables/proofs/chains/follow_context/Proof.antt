@@ -14,12 +14,12 @@ use Rattle.tables.proofs.chains.follow_context.Statement.{statement}
 use Rattle.tables.proofs.chains.follow_context.Tie as tie
 
 abbrev Inv-loop : tie.InvT-loop
-Inv-loop words places n rules sizes owned seen₀ from leasts contexts₀ r₀ seen contexts r =
+Inv-loop words places counts sizes owned seen₀ from leasts contexts₀ r₀ seen contexts r =
     (length contexts ≡ length contexts₀) × (length seen ≡ length seen₀) × (weight contexts ≤ weight contexts₀) ×
-    ((g : Grammar) → Known words places n rules sizes leasts g → Stands g leasts contexts₀ seen₀ → Stands g leasts contexts seen)
+    ((g : Grammar) → Known words places (counts .n) (counts .rules) sizes leasts g → Stands g leasts contexts₀ seen₀ → Stands g leasts contexts seen)
 
 abbrev μ-loop : tie.MeasureT-loop
-μ-loop words places n rules sizes owned seen₀ from leasts contexts₀ r₀ seen contexts r = weight contexts
+μ-loop words places counts sizes owned seen₀ from leasts contexts₀ r₀ seen contexts r = weight contexts
 
 loop-holds : tie.Need-loop-holds Inv-loop μ-loop
 loop-holds c = (refl, refl, omega arith, λ g known stands. stands)
@@ -44,8 +44,8 @@ context-of-rule-requires c κs =
     let word = c .before .before .before in
     let right = word .before in
     let index = right .before in
-    let at = index .before .before in
-    let start = at .before .before .before .before .before .before in
+    let at = index .before .before .before in
+    let start = at .before .before .before .before .before .before .before in
     let (g, known) = start .pre .1 in
     let small : at .loop .r < 256 = omega arith in
     let is = index .index .ensures in
@@ -66,12 +66,12 @@ returns c =
     let word = lowered .before .before .before .before in
     let right = word .before in
     let index = right .before in
-    let at = index .before .before in
-    let p = at .before .before .before .before .before .before .pre .0 in
-    let small : at .loop .r < 256 = omega (arith, p .0, index .before .loop-test .taken) in (
+    let at = index .before .before .before in
+    let p = at .before .before .before .before .before .before .before .pre .0 in
+    let small : at .loop .r < 256 = omega (arith, p .0, index .before .if1 .taken) in (
       omega (arith, at .loop .inv .2, context-fallen (lowered .context-of-rule .ensures)),
       λ g known stands.
-          context-kept known (index .before .loop-test .taken) (omega (arith, p .1 .1, at .loop .inv .0))
+          context-kept known (index .before .if1 .taken) (omega (arith, p .1 .1, at .loop .inv .0))
           (index .index .ensures) (word .word .ensures) (right .right .ensures .0) refl
           (lowered .context-of-rule .ensures) (at .loop .inv .3 g known stands),
     )
@@ -85,7 +85,7 @@ figure-at-requires c κs = search needs
 loop-less : tie.Need-loop-less Inv-loop μ-loop
 loop-less c =
     let else = c .before .before in
-    omega (arith, context-fallen (else .before .before .before .before .before .context-of-rule .ensures), else .if1 .left)
+    omega (arith, context-fallen (else .before .before .before .before .before .context-of-rule .ensures), else .if2 .left)
 
 loop-again : tie.Need-loop-again Inv-loop μ-loop
 loop-again c =
@@ -93,14 +93,14 @@ loop-again c =
     let word = lowered .before .before .before .before in
     let right = word .before in
     let index = right .before in
-    let at = index .before .before in
-    let p = at .before .before .before .before .before .before .pre .0 in
-    let small : at .loop .r < 256 = omega (arith, p .0, index .before .loop-test .taken) in (
+    let at = index .before .before .before in
+    let p = at .before .before .before .before .before .before .before .pre .0 in
+    let small : at .loop .r < 256 = omega (arith, p .0, index .before .if1 .taken) in (
       lowered .context-of-rule .kept .1 .1 .1 .1 .1 .1 .1 .0 ∙ at .loop .inv .0,
       lowered .context-of-rule .kept .1 .1 .1 .1 .1 .0 ∙ at .loop .inv .1,
       omega (arith, at .loop .inv .2, context-fallen (lowered .context-of-rule .ensures)),
       λ g known stands.
-          context-kept known (index .before .loop-test .taken) (omega (arith, p .1 .1, at .loop .inv .0))
+          context-kept known (index .before .if1 .taken) (omega (arith, p .1 .1, at .loop .inv .0))
           (index .index .ensures) (word .word .ensures) (right .right .ensures .0) refl
           (lowered .context-of-rule .ensures) (at .loop .inv .3 g known stands),
     )
@@ -112,7 +112,7 @@ same-length-4 : tie.Need-same-length-4 Inv-loop μ-loop
 same-length-4 c = search needs
 
 returns-2 : tie.Need-returns-2 Inv-loop μ-loop
-returns-2 c = let inv = c .before .loop .inv in (omega (arith, inv .2), inv .3)
+returns-2 c = let inv = c .before .before .loop .inv in (omega (arith, inv .2), inv .3)
 
 pub follow-context-spec : {M : Type 1} → statement M
 follow-context-spec =

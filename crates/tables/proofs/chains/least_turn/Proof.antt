@@ -22,8 +22,8 @@ lower-least-requires c κs =
     let right = c .before in
     let word = right .before in
     let index = word .before in
-    let p = index .before .before .before .before .pre in
-    let low : index .before .before .before .before .args .r < 256 = omega (arith, p .0) in
+    let p = index .before .before .before .before .before .pre in
+    let low : index .before .before .before .before .before .args .r < 256 = omega (arith, p .0) in
     let at = index .index .ensures in
     let (g, view) = p .1 in
     let room = p .0 .1 .1 in
@@ -38,8 +38,8 @@ returns c =
     let right = lowered .before .before in
     let word = right .before in
     let index = word .before in
-    let p = index .before .before .before .before .pre in
-    let low : index .before .before .before .before .args .r < 256 = omega (arith, p .0) in
+    let p = index .before .before .before .before .before .pre in
+    let low : index .before .before .before .before .before .args .r < 256 = omega (arith, p .0) in
     let at = index .index .ensures in (
       (omega arith, omega (arith, step-fallen (lowered .lower-least .ensures), c .if1 .taken)),
       λ g view.
@@ -64,8 +64,8 @@ returns-2 c =
     let right = lowered .before .before in
     let word = right .before in
     let index = word .before in
-    let p = index .before .before .before .before .pre in
-    let low : index .before .before .before .before .args .r < 256 = omega (arith, p .0) in
+    let p = index .before .before .before .before .before .pre in
+    let low : index .before .before .before .before .before .args .r < 256 = omega (arith, p .0) in
     let at = index .index .ensures in
     let first = step-fallen (lowered .lower-least .ensures) in (
       (omega arith, omega (arith, first, followed .follow-least .ensures .0, fell .if1 .left)),

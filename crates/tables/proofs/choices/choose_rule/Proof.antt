@@ -1,6 +1,6 @@
 -- `tables::choices::choose_rule` meets its contract: each `return` is one of `NotedWhere`'s cases. Assumes nothing.
 use native.Mathlib.Omega.{arith}
-use Rattle.tables.specs.Noted.{does, does-not}
+use Rattle.tables.specs.Choices.{does, does-not}
 use borrow.Author.Needs.{needs}
 use Rattle.tables.proofs.choices.choose_rule.Statement.{statement}
 use Rattle.tables.proofs.choices.choose_rule.Tie as tie

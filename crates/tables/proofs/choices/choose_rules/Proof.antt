@@ -6,7 +6,7 @@ use native.Mathlib.Omega.{arith}
 use borrow.Author.Needs.{needs}
 use lib.ListN.{length, getD}
 use Rattle.grammar.specs.Words.{Grammar}
-use Rattle.tables.specs.Figures.{Empty, ChosenOf}
+use Rattle.tables.specs.Choices.{NoChoices, ChosenOf}
 use Rattle.tables.proofs.FirstsNoted.{firsts-empty, empty-room}
 use Rattle.layout.specs.View.{View}
 use Rattle.layout.proofs.RulesInView.{viewed-room}
@@ -17,14 +17,14 @@ use Rattle.tables.proofs.choices.choose_rules.Tie as tie
 abbrev Inv-loop : tie.InvT-loop
 Inv-loop words places rules leasts sizes chosen₀ r₀ chosen r =
     (r ≤ rules) × (length chosen ≡ length chosen₀) ×
-    ((g : Grammar) (n : ℕ) → View words places n rules g → Empty chosen₀ → ChosenOf g leasts sizes chosen r)
+    ((g : Grammar) (n : ℕ) → View words places n rules g → NoChoices chosen₀ → ChosenOf g leasts sizes chosen r)
 
 abbrev μ-loop : tie.MeasureT-loop
 μ-loop words places rules leasts sizes chosen₀ r₀ chosen r = rules - r
 
 loop-holds : tie.Need-loop-holds Inv-loop μ-loop
 loop-holds c =
-    let a = c .before .before .before .args in (
+    let a = c .before .before .before .before .args in (
       omega arith,
       refl,
       λ g n view empty. firsts-empty _ (g .N) (a .chosen .now) empty (viewed-room view (omega arith)),
@@ -60,12 +60,12 @@ loop-again c =
     let word = c .before .before .before .before .before .word in
     let at = c .before .before .before .before .before .before .index in
     let loop = c .before .before .before .before .before .before .before .before .loop in
-    let a = c .before .before .before .before .before .before .before .before .before .before .before .before .args in (
+    let a = c .before .before .before .before .before .before .before .before .before .before .before .before .before .args in (
       omega arith,
       chose .kept .1 .1 .1 .1 .0 ∙ loop .inv .1,
       λ g n view empty.
           let room = empty-room (a .chosen .now) empty in
-          let left = word .ensures ∙ ap (λ (p : ℕ). getD (a .words .now) p 0) (at .ensures .0 (omega arith)) in
+          let left = word .ensures ∙ ap (λ (p : ℕ). getD (a .words .now) p 0) (at .ensures) in
           let noted = rw left at (chose .ensures) in
           let so-far = loop .inv .2 g n view empty in
           rule-chosen view (a .leasts .now) (a .sizes .now) (loop .r) (omega arith) noted (omega (arith, loop .inv .1))
@@ -77,7 +77,7 @@ same-length c = search needs
 
 returns : tie.Need-returns Inv-loop μ-loop
 returns c g n view empty =
-    let a = c .before .before .before .before .before .args in
+    let a = c .before .before .before .before .before .before .args in
     let e : c .before .loop .r ≡ a .rules = omega arith in
     rw e at (c .before .loop .inv .2 g n view empty)
 

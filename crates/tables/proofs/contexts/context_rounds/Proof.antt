@@ -13,12 +13,12 @@ use Rattle.tables.proofs.contexts.context_rounds.Statement.{statement}
 use Rattle.tables.proofs.contexts.context_rounds.Tie as tie
 
 abbrev Inv-loop : tie.InvT-loop
-Inv-loop words places n rules sizes leasts contexts₀ owned seen₀ fell₀ up₀ contexts seen fell up =
+Inv-loop words places n rules sizes leasts contexts₀ owned seen₀ counts fell₀ up₀ contexts seen fell up =
     (length contexts ≡ length contexts₀) × (length seen ≡ 256) ×
     ((g : Grammar) → Known words places n rules sizes leasts g → SeenRounds g leasts rules contexts₀ seen₀ contexts seen fell)
 
 abbrev μ-loop : tie.MeasureT-loop
-μ-loop words places n rules sizes leasts contexts₀ owned seen₀ fell₀ up₀ contexts seen fell up = weight contexts + fell
+μ-loop words places n rules sizes leasts contexts₀ owned seen₀ counts fell₀ up₀ contexts seen fell up = weight contexts + fell
 
 slice-aggregate-note-rules : tie.Need-slice-aggregate-note-rules Inv-loop μ-loop
 slice-aggregate-note-rules c = search needs
@@ -38,7 +38,7 @@ slice-aggregate-context-round-2 c = search needs
 context-round-requires : tie.Need-context-round-requires Inv-loop μ-loop
 context-round-requires c κs =
     let at = c .before .before .before .before in
-    let p = at .before .before .before .before .before .before .before .pre in
+    let p = at .before .before .before .before .before .before .before .before .pre in
     ((p .0 .0, (omega (arith, at .loop .inv .1), omega (arith, p .0 .1, at .loop .inv .0))), p .1)
 
 loop-less : tie.Need-loop-less Inv-loop μ-loop
@@ -49,8 +49,8 @@ loop-again c =
     let last = c .before .before .before in
     let at = last .before .before .before .before .before in
     let kept = last .context-round .kept in (
-      kept .1 .1 .1 .1 .1 .1 .1 .1 .1 .0 ∙ at .loop .inv .0,
-      kept .1 .1 .1 .1 .1 .1 .0 ∙ at .loop .inv .1,
+      kept .1 .1 .1 .1 .1 .1 .1 .1 .0 ∙ at .loop .inv .0,
+      kept .1 .1 .1 .1 .1 .0 ∙ at .loop .inv .1,
       λ g known. rounds-more g _ (at .loop .inv .2 g known) (last .context-round .ensures .1 g known),
     )
 

@@ -62,7 +62,7 @@ loop-again : tie.Need-loop-again Inv-loop μ-loop
 loop-again c =
     let at = c .before .before .before in
     let loop = at .before .before .before .before in
-    let a = loop .before .before .before .before .args in
+    let a = loop .before .before .before .before .before .args in
     let index = at .before .before .index .ensures in
     let left = at .before .word .ensures ∙ ap (λ (p : ℕ). getD (a .words .now) p 0) index in
     let context = at .figure-at .ensures .0 ∙ ap (figure (a .contexts .now)) left in (
@@ -78,7 +78,7 @@ same-length c = search needs
 returns : tie.Need-returns Inv-loop μ-loop
 returns c g n view =
     let loop = c .before in
-    let a = loop .before .before .before .before .args in
+    let a = loop .before .before .before .before .before .args in
     totals-of view (a .sizes .now) (a .contexts .now) (loop .loop .totals) (λ k h. loop .loop .inv .2 k (omega arith))
 
 pub rule-totals-spec : {M : Type 1} → statement M

@@ -1,8 +1,9 @@
--- `tables::figures::figure_at` meets its contract: past the end `getD` is 65535. Assumes nothing.
+-- `tables::figures::figure_at` meets its contract: past the end `getD` is noFigure. Assumes nothing.
 use mathlib.Core.Path.{sym}
 use native.Mathlib.Omega.{arith}
 use borrow.Author.Needs.{needs}
 use lib.ListN.{List·getD-eq-default}
+use Rattle.tables.specs.Figures.{noFigure}
 use Rattle.tables.proofs.FiguresFall.{figure-is}
 use Rattle.tables.proofs.figures.figure_at.Statement.{statement}
 use Rattle.tables.proofs.figures.figure_at.Tie as tie
@@ -25,7 +26,7 @@ returns c =
     (figure-is (a .figures .now) (a .a) 0 (omega arith), omega (arith, c .shared-slice-known .given (a .a)))
 
 returns-2 : tie.Need-returns-2
-returns-2 c = (sym (List·getD-eq-default (c .before .args .figures .now) 65535 (c .if1 .left)), omega arith)
+returns-2 c = (sym (List·getD-eq-default (c .before .args .figures .now) noFigure (c .if1 .left)), omega arith)
 
 pub figure-at-spec : {M : Type 1} → statement M
 figure-at-spec =

@@ -3,6 +3,7 @@
 use mathlib.Core.Path.{refl}
 use Rattle.tables.proofs.LeastRounds.{rounded}
 use Rattle.tables.proofs.RuleSizes.{settled-sized, rest-sized}
+use native.Mathlib.Omega.{arith}
 use borrow.Author.Needs.{needs}
 use Rattle.tables.proofs.leasts.least_rounds.Statement.{statement}
 use Rattle.tables.proofs.leasts.least_rounds.Tie as tie
@@ -46,7 +47,7 @@ sizes-settle-requires-2 c κs =
     let first = c .before .before .before .before .before .before .before .before .before .before in
     let round = first .before .before .before .before .before in
     let start = round .before .before .before .before .before .before .before .before .before in
-    ((start .pre .0 .0, search needs, search needs), start .pre .1)
+    ((start .before .pre .0 .0, search needs, omega (arith, first .sizes-settle .kept .1 .1 .1 .1 .1 .0, start .before .pre .0 .2)), start .before .pre .1)
 
 same-length-3 : tie.Need-same-length-3
 same-length-3 c = search needs

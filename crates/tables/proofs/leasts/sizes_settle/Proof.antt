@@ -32,17 +32,17 @@ mul-size-settles : tie.Need-mul-size-settles Inv-loop μ-loop
 mul-size-settles c =
     let start = c .before .before .before .before .before .before in
     let low : c .before .before .loop .r < 256 = omega arith in
-    let within = inside (start .pre .1 .1) (omega arith) (c .index .ensures) in
+    let within = inside (start .before .pre .1 .1) (omega arith) (c .index .ensures) in
     search needs
 
 shared-slice-read-size-settles : tie.Need-shared-slice-read-size-settles Inv-loop μ-loop
 shared-slice-read-size-settles c =
     let start = c .before .before .before .before .before .before .before in
     let low : c .before .before .before .loop .r < 256 = omega arith in
-    inside (start .pre .1 .1) (omega arith) (c .before .index .ensures)
+    inside (start .before .pre .1 .1) (omega arith) (c .before .index .ensures)
 
 cast-size-settles : tie.Need-cast-size-settles Inv-loop μ-loop
-cast-size-settles c = omega (arith, c .shared-slice-known3 .given (c .before .index .result))
+cast-size-settles c = omega (arith, c .shared-slice-known4 .given (c .before .index .result))
 
 right-requires : tie.Need-right-requires Inv-loop μ-loop
 right-requires c κs = search needs
@@ -53,8 +53,8 @@ size-settles-requires c κs =
     let start = read .before .before .before .before .before .before .before in
     let low : read .before .before .before .loop .r < 256 = omega arith in
     let at = read .before .index .ensures in
-    let view = start .pre .1 .1 in
-    let room = start .pre .0 .1 in
+    let view = start .before .pre .1 .1 in
+    let room = start .before .pre .0 .1 in
     ((search needs, left-within view (omega arith) at room, nonterminals-within view room), omega arith)
 
 same-length : tie.Need-same-length Inv-loop μ-loop
@@ -66,7 +66,7 @@ returns c g view =
     let right = settled .before .before in
     let index = right .before .before in
     let below = index .before .loop-test .taken in
-    let few = index .before .before .before .before .before .before .pre .0 .0 in
+    let few = index .before .before .before .before .before .before .before .pre .0 .0 in
     let low : index .before .before .loop .r < 256 = omega (arith, below, few) in
     let at = index .index .ensures in
     unsettled view at (right .right .ensures .0) (omega (arith, below)) (settled .size-settles .ensures) (c .if1 .taken)
@@ -84,7 +84,7 @@ loop-again c =
     let index = right .before .before in
     let loop = index .before .before .loop in
     let below = index .before .loop-test .taken in
-    let few = index .before .before .before .before .before .before .pre .0 in
+    let few = index .before .before .before .before .before .before .before .pre .0 in
     let low : loop .r < 256 = omega (arith, below, few) in
     let at = index .index .ensures in (
       omega arith,
@@ -99,7 +99,7 @@ same-length-2 c = search needs
 
 returns-2 : tie.Need-returns-2 Inv-loop μ-loop
 returns-2 c g view =
-    let end : c .before .loop .r ≡ c .before .before .before .before .before .args .rules = omega arith in
+    let end : c .before .loop .r ≡ c .before .before .before .before .before .before .args .rules = omega arith in
     rw end at (c .before .loop .inv .2 g view)
 
 pub sizes-settle-spec : {M : Type 1} → statement M

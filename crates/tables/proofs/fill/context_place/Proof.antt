@@ -1,9 +1,9 @@
--- `tables::written::context_place` meets its contract: 65535 is no number. Assumes nothing.
+-- `tables::fill::context_place` meets its contract: `noChoice` is no number. Assumes nothing.
 use mathlib.Core.Path.{sym}
 use Prim.Native.Nat.{_%_}
-use Rattle.tables.proofs.TableEntries.{or-none, or-some}
-use Rattle.tables.proofs.written.context_place.Statement.{statement}
-use Rattle.tables.proofs.written.context_place.Tie as tie
+use Rattle.tables.proofs.TableFound.{or-none, or-some}
+use Rattle.tables.proofs.fill.context_place.Statement.{statement}
+use Rattle.tables.proofs.fill.context_place.Tie as tie
 
 returns : tie.Need-returns
 returns c = let q = c .before .args .number in sym (or-none q (q % 32) (c .if1 .taken))

@@ -1,12 +1,12 @@
--- `tables::choices::choose_place` meets its contract: each `return` is one of `NotedWhere`'s cases. Assumes nothing.
+-- `tables::choices::choose_lead` meets its contract: each `return` is one of `NotedWhere`'s cases. Assumes nothing.
 use Prim.Native.Nat.{_<_}
 use native.Mathlib.Omega.{arith}
 use lib.ListN.{length}
-use Rattle.tables.specs.Noted.{does, does-not, noted, kept}
+use Rattle.tables.specs.Choices.{does, does-not, noted, kept}
 use Rattle.tables.proofs.FiguresFall.{figure-is}
 use borrow.Author.Needs.{needs}
-use Rattle.tables.proofs.choices.choose_place.Statement.{statement}
-use Rattle.tables.proofs.choices.choose_place.Tie as tie
+use Rattle.tables.proofs.choices.choose_lead.Statement.{statement}
+use Rattle.tables.proofs.choices.choose_lead.Tie as tie
 
 mul-if2 : tie.Need-mul-if2
 mul-if2 c = search needs
@@ -71,8 +71,8 @@ returns-3 c =
 returns-4 : tie.Need-returns-4
 returns-4 c = does-not (λ p. omega (arith, p .0))
 
-pub choose-place-spec : {M : Type 1} → statement M
-choose-place-spec =
+pub choose-lead-spec : {M : Type 1} → statement M
+choose-lead-spec =
     tie.close
     (tie.spec
     mul-if2

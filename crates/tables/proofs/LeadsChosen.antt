@@ -11,8 +11,9 @@ use Rattle.grammar.proofs.LayoutExact.{rule-short}
 use Rattle.grammar.specs.Certificates.{Holds}
 use Rattle.grammar.proofs.ContextsExist.{holds-below}
 use Rattle.grammar.proofs.RuleNumbers.{rule-right}
-use Rattle.tables.specs.Figures.{figure, PlaceFits, PlacesOf}
-use Rattle.tables.specs.Noted.{NotedWhere, does, does-not}
+use Rattle.tables.specs.Figures.{figure}
+use Rattle.tables.specs.Choices.{PlaceFits, LeadsOf}
+use Rattle.tables.specs.Choices.{NotedWhere, does, does-not}
 use Rattle.tables.proofs.FirstsNoted.{firsts-past, firsts-noted}
 
 holds-at : (w : List ℕ) (i : ℕ) → i < length w → Holds w i (getD w i 0)
@@ -35,10 +36,10 @@ module _ (g : Grammar) (ok : InBounds g) (vs us totals : List ℕ) {r B : ℕ} {
       let w-is : f .w ≡ w = rule-right k-is (f .rule) rule in
       record { holds = rw (w-is, i-is) at (f .holds); same = rw k-is at (f .same) }
 
-  module _ (xs : List ℕ) (i : ℕ) (so-far : PlacesOf g vs us totals xs (32 * r + i)) where
+  module _ (xs : List ℕ) (i : ℕ) (so-far : LeadsOf g vs us totals xs (32 * r + i)) where
     -- nothing fits from place i up to place j
     places-past : (j : ℕ) → i ≤ j → j ≤ 32 → ((A p : ℕ) → A < g .N → i ≤ p → p < j → ¬ FitsHere A p) →
-        PlacesOf g vs us totals xs (32 * r + j)
+        LeadsOf g vs us totals xs (32 * r + j)
     places-past j l m unfit = firsts-past (PlaceFits g vs us totals) (g .N) xs so-far (32 * r + j) (omega arith) past
       where
         past : (A q : ℕ) → A < g .N → 32 * r + i ≤ q → q < 32 * r + j → ¬ PlaceFits g vs us totals A q
@@ -50,7 +51,7 @@ module _ (g : Grammar) (ok : InBounds g) (vs us totals : List ℕ) {r B : ℕ} {
     -- the symbol at place i is looked at
     pub place-chosen : (s : ℕ) {ys : List ℕ} → i < length w → s ≡ getD w i 0 →
         NotedWhere ((s < g .N) × (figure vs s + figure us s ≡ getD totals r 0)) xs s (32 * r + i) ys → r < 256 → 128 ≤ length xs →
-        PlacesOf g vs us totals ys (32 * r + (i + 1))
+        LeadsOf g vs us totals ys (32 * r + (i + 1))
     place-chosen s h e z small room = go z
       where
         is-s : (A : ℕ) → Holds w i A → A ≡ s
@@ -73,7 +74,7 @@ module _ (g : Grammar) (ok : InBounds g) (vs us totals : List ℕ) {r B : ℕ} {
             other (rw A-is at lt, rw A-is at (f .same))
 
         go : {ys : List ℕ} → NotedWhere ((s < g .N) × (figure vs s + figure us s ≡ getD totals r 0)) xs s (32 * r + i) ys →
-            PlacesOf g vs us totals ys (32 * r + (i + 1))
+            LeadsOf g vs us totals ys (32 * r + (i + 1))
         go (does p new) =
             let short = rule-short ok rule in
             let bound = ok .nonterminals in
@@ -81,7 +82,7 @@ module _ (g : Grammar) (ok : InBounds g) (vs us totals : List ℕ) {r B : ℕ} {
         go (does-not other) = places-past (i + 1) (omega arith) (omega (arith, rule-short ok rule)) (unfit other)
 
     -- there are no more symbols
-    pub places-end : length w ≤ i → i ≤ 32 → PlacesOf g vs us totals xs (32 * (r + 1))
+    pub places-end : length w ≤ i → i ≤ 32 → LeadsOf g vs us totals xs (32 * (r + 1))
     places-end h l =
         let all = places-past 32 l (omega arith) (λ A p lt low high f. let b = holds-below w p A (f .holds) in omega arith) in
         let e : 32 * r + 32 ≡ 32 * (r + 1) = omega arith in
