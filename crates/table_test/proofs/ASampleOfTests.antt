@@ -1,5 +1,5 @@
--- The table that document 01 prints for D, by the definitions themselves, so that a promise that says otherwise is refused here: with a
--- word behind it it is D's own, and twenty words are not. Assumes nothing.
+-- The table that document 01 prints for D, of the definitions themselves, so that a promise that says otherwise is refused here:
+-- with a word behind it it is D's own, and twenty words are not. Assumes nothing.
 use native.Mathlib.Omega.{arith}
 use mathlib.Core.List.{[], _∷_, _++_}
 use lib.ListN.{replicate}

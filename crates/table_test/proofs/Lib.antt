@@ -1,5 +1,5 @@
--- A sample, by the definitions alone. Files are checked in the order of their names, so that a wrong definition meets a fact before it
--- meets a proof.
+-- A sample, by the definitions alone. Files are checked in the order of their names, so that a wrong definition meets a fact before
+-- it meets a proof.
 pub mod ASampleOfTests
 -- The pass over a lent table.
 pub mod Telling
@@ -8,6 +8,7 @@ pub mod PlacesSummed
 pub mod RulesRead
 pub mod ChoicesRead
 pub mod TestsExact
+pub mod WordsTested
 -- What the promise settles.
 pub mod TestSettles
 -- The final statements.

@@ -1,5 +1,5 @@
--- What the functions that view the words read of a grammar: at the index of rule k they read rule k. So what is answered of the words
--- at an index is answered of a rule. Assumes nothing.
+-- What the functions that view the words read of a grammar: at the index of rule k they read rule k. So what is answered of the
+-- words at an index is answered of a rule. Assumes nothing.
 use Prim.Native.Nat.{ℕ, _≤_, _<_}
 use native.Mathlib.Omega.{arith}
 use mathlib.Core.Path.{_≡_, refl, ap, _∙_}
@@ -16,6 +16,10 @@ use Rattle.entries.specs.Table.{totalIn}
 use Rattle.layout.specs.View.{View}
 use Rattle.table_test.specs.Passes.{Says, PlacesPass, SizePasses, one-fails, all-pass, LeftPasses, RulePasses}
 use Rattle.table_test.proofs.Telling.{says-same}
+
+-- the index that is read for rule k, by a number that is k
+pub index-of : (places : List ℕ) {at j k : ℕ} → at ≡ getD places j 0 → j ≡ k → at ≡ getD places k 0
+index-of places e same = e ∙ ap (λ (x : ℕ). getD places x 0) same
 
 module _ {ws places : List ℕ} {n rules : ℕ} {g : Grammar} (view : View ws places n rules g) where
   pub bounds : InBounds g

@@ -1,6 +1,6 @@
--- The promise of `test` settles its answer and what stands beside it: for each words and each table there is exactly one outcome that it
--- allows, and each answer is given exactly when it should be. Words are refused by one of rows 4 to 7 or are an accepted grammar, of
--- which the table is its own or not. Assumes nothing.
+-- The promise of `test` settles its answer and what stands beside it: for each words and each table there is exactly one outcome
+-- that it allows, and each answer is given exactly when it should be. Words are refused by one of rows 4 to 7 or are an accepted
+-- grammar, and then the table is its own or not. Assumes nothing.
 use Prim.Native.Nat.{ℕ}
 use mathlib.Core.Path.{_≡_, refl, sym, ap, _∙_}
 use mathlib.Core.Logic.{_⊎_, inl, inr, _↔_}
@@ -39,11 +39,13 @@ module _ (words table : List ℕ) where
   pub answer-met : (a : TableTest) × Tested words table a
   answer-met = of-words (refused? limit words)
     where
-      of-table : (g : Grammar) → layout words ≡ reads g → Accepted limit g → Dec (HasTable g table) → (a : TableTest) × Tested words table a
+      of-table : (g : Grammar) → layout words ≡ reads g → Accepted limit g → Dec (HasTable g table) →
+          (a : TableTest) × Tested words table a
       of-table g e ok (yes h) = (_, its e (ok, h))
       of-table g e ok (no n) = (NotIts, not-its (λ (h, e′, own). n (rw (reads-unique words e′ e) at (own .1))))
 
-      of-words : ((x : GrammarRefusal) × GrammarRefused limit words x) ⊎ Are words (Accepted limit) → (a : TableTest) × Tested words table a
+      of-words : ((x : GrammarRefusal) × GrammarRefused limit words x) ⊎ Are words (Accepted limit) →
+          (a : TableTest) × Tested words table a
       of-words (inl (x, r)) = (NotIts, not-its (λ (g, e, own). refused-or-accepted limit words r e (own .0)))
       of-words (inr (g, e, ok)) = of-table g e ok (tabled? table g (in-bounds words e) ok)
 
@@ -54,21 +56,22 @@ module _ (words table : List ℕ) where
       (r, record { tested = z; stand = refl })
 
   -- beside the answer that it is its own stand the places of the rules
-  pub test-places : {r : Testing} → TestPromise words table r → (n s k : ℕ) → r .answer ≡ Its n s k → r .places ≡ placesOf (layout words)
+  pub test-places : {r : Testing} → TestPromise words table r →
+      (n s k : ℕ) → r .answer ≡ Its n s k → r .places ≡ placesOf (layout words)
   test-places t n s k e = t .stand ∙ ap (λ (a : TableTest). placesWith a (placesOf (layout words))) e
 
   -- EXACTLY WHEN, of each answer
-  abbrev pub With : ℕ → ℕ → ℕ → Grammar → Type 0
-  With n s k g = (n ≡ g .N) × (s ≡ g .start) × (k ≡ R g) × Own table g
+  abbrev pub OwnWith : ℕ → ℕ → ℕ → Grammar → Type 0
+  OwnWith n s k g = (n ≡ g .N) × (s ≡ g .start) × (k ≡ R g) × Own table g
 
-  only-its : {n s k : ℕ} → Tested words table (Its n s k) → Are words (With n s k)
+  only-its : {n s k : ℕ} → Tested words table (Its n s k) → Are words (OwnWith n s k)
   only-its (its {g = g} e own) = (g, e, (refl, refl, refl, own))
 
   only-not-its : Tested words table NotIts → ¬ Are words (Own table)
   only-not-its (not-its n) = n
 
   module _ {a : TableTest} (t : Tested words table a) where
-    pub test-its : (n s k : ℕ) → (a ≡ Its n s k) ↔ Are words (With n s k)
+    pub test-its : (n s k : ℕ) → (a ≡ Its n s k) ↔ Are words (OwnWith n s k)
     test-its n s k = (λ e. only-its (rw e at t), λ (g, e, (x, y, z, own)). rw (x, y, z) (answer-settles t (its e own)))
 
     pub test-not-its : (a ≡ NotIts) ↔ ¬ Are words (Own table)

@@ -3,22 +3,20 @@
 -- and the size is 1, v A and the sizes of the symbols beside A; so v A + u A is at most the total exactly where u A is at most u
 -- B, 1 and the sizes beside. The start's v A + 0 is below the total of each rule that names it, so its stored 65535 does no harm.
 -- Assumes nothing.
-use Prim.Native.Nat.{ℕ, zero, suc, _+_, _≤_, _<_}
+use Prim.Native.Nat.{ℕ, _+_, _≤_, _<_}
 use native.Mathlib.Omega.{arith}
 use native.Mathlib.Decide.{ℕ-discrete}
 use mathlib.Core.Path.{_≡_, refl, sym, _∙_}
 use mathlib.Core.Logic.{_⊎_, _↔_}
-use mathlib.Core.List.{List, [], _∷_}
+use mathlib.Core.List.{List}
 use lib.ListN.{length, length-take}
 use Rattle.grammar.specs.Words.{Grammar, RuleAt, R, InBounds}
 use Rattle.grammar.specs.Terms.{measure, limit}
 use Rattle.grammar.specs.Refusals.{Accepted}
-use Rattle.grammar.proofs.ConstructorsDiffer.{none-not-some}
 use Rattle.grammar.proofs.LayoutExact.{rule-at, rule-below}
 use Rattle.grammar.proofs.Dead.{open-reached}
 use Rattle.grammar.proofs.Unique.{total-unique}
 use Rattle.grammar.specs.Certificates.{wordSize, Holds, othersSize, AreFigures, FigureCertificate}
-use Rattle.grammar.proofs.Certificate.{symbol-nonterminal}
 use Rattle.grammar.proofs.FigureCertificate.{figure-certificate}
 use Rattle.entries.specs.Table.{tableLength, leastIn, chosenIn, contextIn, ruleIn, placeIn, totalIn, noChoice, HasTable, Own}
 use Rattle.entries.specs.TableCertificates.{figuresOf}

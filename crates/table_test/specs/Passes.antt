@@ -59,11 +59,15 @@ RuleAnswer ws at n k t table r = (g : Grammar) → n ≡ g .N → Says r (RulePa
 abbrev pub RulesPass : Grammar → List ℕ → Type 0
 RulesPass g table = (k A : ℕ) (w : List ℕ) → RuleAt g k A w → RulePasses g table k (totalIn (g .N) table k) A w
 
+-- the total of rule k, of n nonterminals, is v A + u A
+abbrev pub ComesTo : ℕ → List ℕ → ℕ → ℕ → Type 0
+ComesTo n table k A = totalIn n table k ≡ leastIn table A + contextIn table A
+
 -- the chosen rule of A is one of A, and its total is v A + u A
 pub record ChosenPasses (g : Grammar) (table : List ℕ) (A : ℕ) : Type 0 where
   pub w : List ℕ
   pub rule : RuleAt g (chosenIn table A) A w
-  pub total : totalIn (g .N) table (chosenIn table A) ≡ leastIn table A + contextIn table A
+  pub total : ComesTo (g .N) table (chosenIn table A) A
 
 -- the context rule of A has A at the context place, and its total is v A + u A
 pub record ContextPasses (g : Grammar) (table : List ℕ) (A : ℕ) : Type 0 where
@@ -71,7 +75,7 @@ pub record ContextPasses (g : Grammar) (table : List ℕ) (A : ℕ) : Type 0 whe
   pub w : List ℕ
   pub rule : RuleAt g (ruleIn table A) B w
   pub holds : Holds w (placeIn table A) A
-  pub total : totalIn (g .N) table (ruleIn table A) ≡ leastIn table A + contextIn table A
+  pub total : ComesTo (g .N) table (ruleIn table A) A
 
 -- the context of A, which is the start, is 0, with no rule and no place
 pub record StartPasses (table : List ℕ) (A : ℕ) : Type 0 where

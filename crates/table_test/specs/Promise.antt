@@ -1,5 +1,5 @@
--- What `test` promises: of words and a lent table, whether the words are an accepted grammar and the first words of the table are its
--- own ("Tables", document 01), and what was found on the way. Assumes nothing.
+-- What `test` promises: of words and a lent table, whether the words are an accepted grammar and the first words of the table are
+-- its own, and what was found on the way. Assumes nothing.
 use Prim.Native.Nat.{ℕ}
 use mathlib.Core.Path.{_≡_}
 use mathlib.Core.List.{List}

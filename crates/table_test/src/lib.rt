@@ -1,9 +1,12 @@
-// Whether a lent table is that of the grammar that words are, by one pass over the words and the table and no rounds. What the words of
-// a table mean is entries' specs/Table; what the call answers is specs/Promise.
+// Whether a lent table is that of the grammar that words are, by one pass over the words and the table and no rounds. What the
+// words of a table mean is entries' specs/Table; what the call answers is specs/Promise.
 mod passes;
 
+ghost use mathlib.Core.Path.{_≡_};
+ghost use Rattle.grammar.specs.Words.{layout};
+ghost use Rattle.layout.specs.Judge.{placesOf};
+ghost use Rattle.layout.specs.View.{Begun};
 ghost use Rattle.table_test.specs.Promise.{TestPromise};
-use cells::narrow;
 use layout::judge;
 use layout::judge::LayoutAnswer;
 
@@ -30,39 +33,48 @@ pub fn test(words: &[u16], table: &[u16]) -> Testing
 {
     let reading = judge::read(words);
     let answer = reading.answer;
+    let places = reading.places;
     match answer {
+        // Of words that are no grammar all places are 0.
         LayoutAnswer::Fault { place: _ } => Testing {
             answer: TableTest::NotIts,
-            places: [0u16; 256],
+            places,
         },
         LayoutAnswer::Grammar {
             nonterminals,
             terminals: _,
             start,
             rules,
-        } => {
-            if passes::passes(
-                words,
-                &reading.places,
-                narrow(nonterminals),
-                narrow(start),
-                narrow(rules),
-                table,
-            ) {
-                Testing {
-                    answer: TableTest::Its {
-                        nonterminals,
-                        start,
-                        rules,
-                    },
-                    places: reading.places,
-                }
-            } else {
-                Testing {
-                    answer: TableTest::NotIts,
-                    places: [0u16; 256],
-                }
-            }
+        } => test_grammar(words, places, nonterminals, start, rules, table),
+    }
+}
+
+// Of words that are a grammar.
+fn test_grammar(
+    words: &[u16],
+    places: [u16; 256],
+    n: usize,
+    start: usize,
+    rules: usize,
+    table: &[u16],
+) -> Testing
+    requires { ⌜ Begun (now words) places n start rules ⌝ }
+    requires { ⌜ places ≡ placesOf (layout (now words)) ⌝ }
+    ensures { λ r. ⌜ TestPromise (now (words .entry)) (now (table .entry)) r ⌝ }
+{
+    if passes::passes(words, &places, n, start, rules, table) {
+        Testing {
+            answer: TableTest::Its {
+                nonterminals: n,
+                start,
+                rules,
+            },
+            places,
+        }
+    } else {
+        Testing {
+            answer: TableTest::NotIts,
+            places: [0u16; 256],
         }
     }
 }

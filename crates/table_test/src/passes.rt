@@ -5,11 +5,13 @@
 ghost use mathlib.Core.Path.{_≡_};
 ghost use Prim.Native.Nat.{_+_, _*_, _≤_};
 ghost use lib.ListN.{length};
-ghost use Rattle.grammar.specs.Words.{Grammar};
-ghost use Rattle.entries.specs.Table.{Own};
-ghost use Rattle.layout.specs.View.{View};
+ghost use Rattle.grammar.specs.Words.{Grammar, Are};
+ghost use Rattle.grammar.specs.Certificates.{Holds};
+ghost use Rattle.entries.specs.Table.{entry, Own};
+ghost use Rattle.layout.specs.View.{View, Begun};
 ghost use Rattle.table_test.specs.Passes.{Says, Answer, PlacePasses, SizePasses, LeftPasses, RuleAnswer, RulesPass};
-ghost use Rattle.table_test.specs.Passes.{ChosenPasses, ContextPasses, StartPasses, ChoicePasses, ChoicesPass};
+ghost use Rattle.table_test.specs.Passes.{ComesTo, ChosenPasses, ContextPasses, StartPasses, ChoicePasses, ChoicesPass};
+use cells::narrow;
 use cells::read;
 use cells::wide;
 use entries::LIMIT;
@@ -104,6 +106,13 @@ fn rules_pass(words: &[u16], places: &[u16], n: u16, rules: u16, table: &[u16]) 
     true
 }
 
+// Whether the total of a rule is what a's least and context come to.
+fn comes_to(table: &[u16], n: u16, rule: u16, a: u16) -> bool
+    ensures { λ r. ⌜ Says r (ComesTo n (now (table .entry)) rule a) ⌝ }
+{
+    entries::total(table, n, rule) == entries::least(table, a) + entries::context(table, a)
+}
+
 // Whether the chosen rule of a is one of a's, and its total what a's least and context come to.
 fn chosen_passes(words: &[u16], places: &[u16], n: u16, rules: u16, a: u16, table: &[u16]) -> bool
     ensures { λ r. ⌜ Answer (now (words .entry)) (now (places .entry)) n rules (λ g. ChosenPasses g (now (table .entry)) a) r ⌝ }
@@ -115,7 +124,17 @@ fn chosen_passes(words: &[u16], places: &[u16], n: u16, rules: u16, a: u16, tabl
     if read(words, rules::index(places, wide(chosen))) != a {
         return false;
     }
-    entries::total(table, n, chosen) == entries::least(table, a) + entries::context(table, a)
+    comes_to(table, n, chosen, a)
+}
+
+// Whether symbols hold a at a place.
+fn holds(symbols: &[u16], place: usize, a: u16) -> bool
+    ensures { λ r. ⌜ Says r (Holds (now (symbols .entry)) place a) ⌝ }
+{
+    if symbols.len() <= place {
+        return false;
+    }
+    symbols[place] == a
 }
 
 // Whether the context rule of a has a at the context place, and its total is what a's least and context come to.
@@ -127,14 +146,10 @@ fn context_passes(words: &[u16], places: &[u16], n: u16, rules: u16, a: u16, tab
         return false;
     }
     let symbols = rules::right(words, rules::index(places, wide(by)));
-    let place = wide(entries::place(table, a));
-    if symbols.len() <= place {
+    if !holds(symbols, wide(entries::place(table, a)), a) {
         return false;
     }
-    if symbols[place] != a {
-        return false;
-    }
-    entries::total(table, n, by) == entries::least(table, a) + entries::context(table, a)
+    comes_to(table, n, by, a)
 }
 
 // Whether the context of a, which is the start, is 0, with no rule and no place.
@@ -196,7 +211,7 @@ fn choices_pass(
 }
 
 // Whether a table passes all tests: it is long enough, and its choices and its rules are right.
-pub fn passes(words: &[u16], places: &[u16], n: u16, start: u16, rules: u16, table: &[u16]) -> bool
+fn all_pass(words: &[u16], places: &[u16], n: u16, start: u16, rules: u16, table: &[u16]) -> bool
     ensures { λ r. ⌜ ((g : Grammar) → View (now (words .entry)) (now (places .entry)) n rules g → start ≡ g .start →
         Says r (Own (now (table .entry)) g)) ⌝ }
 {
@@ -207,4 +222,26 @@ pub fn passes(words: &[u16], places: &[u16], n: u16, start: u16, rules: u16, tab
         return false;
     }
     rules_pass(words, places, n, rules, table)
+}
+
+// The same, by the numbers and the places that the judge gives of words.
+pub fn passes(
+    words: &[u16],
+    places: &[u16],
+    n: usize,
+    start: usize,
+    rules: usize,
+    table: &[u16],
+) -> bool
+    requires { ⌜ Begun (now words) (now places) n start rules ⌝ }
+    ensures { λ r. ⌜ Says r (Are (now (words .entry)) (Own (now (table .entry)))) ⌝ }
+{
+    all_pass(
+        words,
+        places,
+        narrow(n),
+        narrow(start),
+        narrow(rules),
+        table,
+    )
 }

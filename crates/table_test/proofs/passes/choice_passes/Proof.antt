@@ -1,4 +1,4 @@
--- `tables::passes::choice_passes` meets its contract: by the chosen rule, and by what is asked of the start or of any other.
+-- `table_test::passes::choice_passes` meets its contract: by the chosen rule, and by what is asked of the start or of any other.
 -- Assumes nothing.
 use Rattle.table_test.proofs.Telling.{told, refuted, says-same}
 use Rattle.table_test.proofs.ChoicesRead.{start-choice, other-choice}
@@ -6,19 +6,10 @@ use borrow.Author.Needs.{needs}
 use Rattle.table_test.proofs.passes.choice_passes.Statement.{statement}
 use Rattle.table_test.proofs.passes.choice_passes.Tie as tie
 
-chosen-passes-requires : tie.Need-chosen-passes-requires
-chosen-passes-requires c κs = search needs
-
 returns : tie.Need-returns
 returns c g view p =
     let tested = c .before .chosen-passes in
     refuted (tested .result) (tested .ensures g view) (c .if1 .taken) (p .chosen)
-
-start-passes-requires : tie.Need-start-passes-requires
-start-passes-requires c κs = search needs
-
-context-passes-requires : tie.Need-context-passes-requires
-context-passes-requires c κs = search needs
 
 returns-2 : tie.Need-returns-2
 returns-2 c g view =
@@ -34,11 +25,4 @@ returns-3 c g view =
 
 pub choice-passes-spec : {M : Type 1} → statement M
 choice-passes-spec =
-    tie.close
-    (tie.spec
-    chosen-passes-requires
-    returns
-    start-passes-requires
-    context-passes-requires
-    returns-2
-    returns-3)
+    tie.close (tie.spec (λ c κs. search needs) returns (λ c κs. search needs) (λ c κs. search needs) returns-2 returns-3)

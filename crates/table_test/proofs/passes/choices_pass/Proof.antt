@@ -1,4 +1,4 @@
--- `tables::passes::choices_pass` meets its contract: the choices of each nonterminal that the loop has passed are right. The
+-- `table_test::passes::choices_pass` meets its contract: the choices of each nonterminal that the loop has passed are right. The
 -- measure is what is left of the nonterminals. Assumes nothing.
 use Prim.Native.Nat.{ℕ, _≤_, _<_, _-_}
 use native.Mathlib.Omega.{arith}
@@ -21,20 +21,11 @@ abbrev μ-loop : tie.MeasureT-loop
 loop-holds : tie.Need-loop-holds Inv-loop μ-loop
 loop-holds c = (omega arith, λ k h. absurd (omega arith))
 
-choice-passes-requires : tie.Need-choice-passes-requires Inv-loop μ-loop
-choice-passes-requires c κs = search needs
-
 returns : tie.Need-returns Inv-loop μ-loop
 returns c g view p =
     let tested = c .before .choice-passes in
     let here = p (c .before .before .before .loop .a) (omega (arith, view .nonterminals)) in
     refuted (tested .result) (tested .ensures g view) (c .if1 .taken) here
-
-add-a : tie.Need-add-a Inv-loop μ-loop
-add-a c = search needs
-
-loop-less : tie.Need-loop-less Inv-loop μ-loop
-loop-less c = search needs
 
 loop-again : tie.Need-loop-again Inv-loop μ-loop
 loop-again c =
@@ -50,13 +41,5 @@ returns-2 c g view A lt = c .before .loop .inv .1 A (omega (arith, view .nonterm
 pub choices-pass-spec : {M : Type 1} → statement M
 choices-pass-spec =
     tie.close
-    (tie.spec
-    Inv-loop
-    μ-loop
-    loop-holds
-    choice-passes-requires
-    returns
-    add-a
-    loop-less
-    loop-again
+    (tie.spec Inv-loop μ-loop loop-holds (λ c κs. search needs) returns (λ c. search needs) (λ c. search needs) loop-again
     returns-2)

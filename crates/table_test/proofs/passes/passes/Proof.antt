@@ -1,57 +1,19 @@
--- `tables::passes::passes` meets its contract: it makes all the tests, and they are exact. Assumes nothing.
-use Prim.Native.Nat.{_≤_}
-use native.Mathlib.Omega.{arith}
-use lib.ListN.{length}
-use Rattle.entries.specs.Table.{tableLength}
-use Rattle.table_test.proofs.Telling.{told, refuted, says-same}
-use Rattle.table_test.proofs.RulesRead.{bounds}
-use Rattle.table_test.proofs.TestsExact.{tests-exact}
+-- `table_test::passes::passes` meets its contract: the numbers of a grammar are words. Assumes nothing.
+use Rattle.table_test.proofs.WordsTested.{narrow-view, narrow-start, of-words}
 use borrow.Author.Needs.{needs}
 use Rattle.table_test.proofs.passes.passes.Statement.{statement}
 use Rattle.table_test.proofs.passes.passes.Tie as tie
 
-mul-if1 : tie.Need-mul-if1
-mul-if1 c = search needs
-
-add-if1 : tie.Need-add-if1
-add-if1 c = search needs
-
 returns : tie.Need-returns
-returns c g view e h =
-    let tests = tests-exact g (bounds view) (c .before .before .before .args .table .now) .1 h in
-    omega (arith, tests .long, view .nonterminals, view .all-rules)
-
-choices-pass-requires : tie.Need-choices-pass-requires
-choices-pass-requires c κs = search needs
-
-returns-2 : tie.Need-returns-2
-returns-2 c g view e h =
-    let tested = c .before .choices-pass in
-    let tests = tests-exact g (bounds view) (c .before .before .before .before .before .args .table .now) .1 h in
-    refuted (tested .result) (tested .ensures g view) (c .if2 .taken) (rw e (tests .choices))
-
-rules-pass-requires : tie.Need-rules-pass-requires
-rules-pass-requires c κs = search needs
-
-returns-3 : tie.Need-returns-3
-returns-3 c g view e =
-    let tested = c .before .before .choices-pass in
-    let table = c .before .before .before .before .before .before .args .table .now in
-    let exact = tests-exact g (bounds view) table in
-    let long : tableLength g ≤ length table = omega (arith, view .nonterminals, view .all-rules) in
-    let choices = rw e at (told (tested .result) (tested .ensures g view) (c .before .if2 .left)) in
-    says-same (c .rules-pass .result)
-    (λ rules. exact .0 (record { long = long; choices = choices; rules = rules }), λ h. exact .1 h .rules)
-    (c .rules-pass .ensures g view)
+returns c =
+    let p = c .before .before .before .before .before .before .before .pre in
+    let table = c .before .before .before .before .before .before .before .args .table .now in
+    let n = c .before .before .before .narrow .ensures .1 in
+    let start = c .before .before .narrow2 .ensures .1 in
+    let rules = c .before .narrow3 .ensures .1 in
+    of-words p table (c .all-pass .result)
+    (c .all-pass .ensures (p .grammar) (narrow-view p n start rules) (narrow-start p n start rules))
 
 pub passes-spec : {M : Type 1} → statement M
 passes-spec =
-    tie.close
-    (tie.spec
-    mul-if1
-    add-if1
-    returns
-    choices-pass-requires
-    returns-2
-    rules-pass-requires
-    returns-3)
+    tie.close (tie.spec (λ c κs. search needs) (λ c κs. search needs) (λ c κs. search needs) (λ c κs. search needs) returns)

@@ -1,5 +1,5 @@
--- `tables::passes::size_passes` meets its contract: the loop's invariant is `Summed`. The measure is what is left of the length.
--- Assumes nothing.
+-- `table_test::passes::size_passes` meets its contract: the loop's invariant is `Summed`. The measure is what is left of the
+-- length. Assumes nothing.
 use Prim.Native.Nat.{_≤_, _-_}
 use native.Mathlib.Omega.{arith}
 use mathlib.Core.Logic.{⊎-elim}
@@ -19,47 +19,26 @@ abbrev μ-loop : tie.MeasureT-loop
 loop-holds : tie.Need-loop-holds Inv-loop μ-loop
 loop-holds c = (omega arith, summed-none)
 
-mul-s : tie.Need-mul-s Inv-loop μ-loop
-mul-s c = search needs
-
-shared-slice-read-s : tie.Need-shared-slice-read-s Inv-loop μ-loop
-shared-slice-read-s c = search needs
-
-cast-s : tie.Need-cast-s Inv-loop μ-loop
-cast-s c = omega (arith, c .shared-slice-known3 .given (c .before .before .loop .i))
-
-place-passes-requires : tie.Need-place-passes-requires Inv-loop μ-loop
-place-passes-requires c κs = search needs
-
 returns : tie.Need-returns Inv-loop μ-loop
 returns c =
     let p = c .before .place-passes in
     let fails = refuted (p .result) (p .ensures) (c .if2 .taken) in
     (place-fails (omega arith) (omega arith) fails, omega arith)
 
-five-requires : tie.Need-five-requires Inv-loop μ-loop
-five-requires c κs = search needs
-
 add-sum : tie.Need-add-sum Inv-loop μ-loop
-add-sum c = omega (arith, c .before .before .before .before .before .before .loop .inv .1 .small, c .five .ensures .1)
+add-sum c = omega (arith, c .before .before .before .before .before .before .loop .inv .1 .small, c .least .ensures .1)
 
 add-sum-2 : tie.Need-add-sum-2 Inv-loop μ-loop
 add-sum-2 c = omega (arith, c .before .before .before .loop .inv .1 .small)
-
-add-i : tie.Need-add-i Inv-loop μ-loop
-add-i c = search needs
-
-loop-less : tie.Need-loop-less Inv-loop μ-loop
-loop-less c = search needs
 
 loop-again : tie.Need-loop-again Inv-loop μ-loop
 loop-again c =
     let z = c .before .before .before .loop .inv .1 in (
       omega arith,
       ⊎-elim
-          (λ (if1, p, if2, five, sum).
+          (λ (if1, p, if2, least, sum).
           rw sum
-          (summed-nonterminal (omega arith) z (five .result) (five .ensures .0) (five .ensures .1) (if1 .taken)
+          (summed-nonterminal (omega arith) z (least .result) (least .ensures .0) (least .ensures .1) (if1 .taken)
           (told (p .result) (p .ensures) (if2 .left))))
           (λ (if1, sum). rw sum (summed-terminal (omega arith) z (if1 .left)))
           (c .if1 .came),
@@ -73,19 +52,5 @@ returns-2 c =
 pub size-passes-spec : {M : Type 1} → statement M
 size-passes-spec =
     tie.close
-    (tie.spec
-    Inv-loop
-    μ-loop
-    loop-holds
-    mul-s
-    shared-slice-read-s
-    cast-s
-    place-passes-requires
-    returns
-    five-requires
-    add-sum
-    add-sum-2
-    add-i
-    loop-less
-    loop-again
-    returns-2)
+    (tie.spec Inv-loop μ-loop loop-holds (λ c. search needs) (λ c. search needs) (λ c κs. search needs) returns
+    (λ c κs. search needs) add-sum add-sum-2 (λ c. search needs) (λ c. search needs) loop-again returns-2)

@@ -1,0 +1,60 @@
+-- What the pass over a table says of the words that were read, from what it says of the grammar that they are; and the outcome of
+-- `test` by that. Assumes nothing.
+use Prim.Native.Nat.{ℕ, _≤_}
+use native.Mathlib.Omega.{arith}
+use mathlib.Core.Path.{_≡_, sym, ap, _∙_}
+use mathlib.Core.Bool.{Bool, true, false, false≢true}
+use mathlib.Core.List.{List}
+use Rattle.grammar.specs.Words.{layout, faults, Are}
+use Rattle.grammar.proofs.LayoutExact.{in-bounds, reads-unique}
+use Rattle.layout.specs.Judge.{placesOf}
+use Rattle.layout.specs.View.{View, Begun}
+use Rattle.layout.proofs.WordsRead.{view-few}
+use Rattle.entries.specs.Table.{Own}
+use Rattle.table_test.specs.Passes.{Says}
+use Rattle.table_test.specs.Promise.{Tested, its, not-its, TestPromise}
+use Rattle.table_test.specs.declared.TableTest.the-variants.{Its, NotIts}
+use Rattle.table_test.proofs.Telling.{says-same}
+
+module _ {ws places : List ℕ} {n start rules : ℕ} (p : Begun ws places n start rules) where
+  -- its numbers are words, so that as words they are the same
+  module _ {m s k : ℕ} (n-same : n ≤ 65535 → m ≡ n) (start-same : start ≤ 65535 → s ≡ start)
+      (rules-same : rules ≤ 65535 → k ≡ rules) where
+    pub narrow-view : View ws places m k (p .grammar)
+    narrow-view =
+        let few = view-few (p .view) in
+        record {
+          is = p .view .is;
+          begin = p .view .begin;
+          nonterminals = n-same (omega (arith, few)) ∙ p .view .nonterminals;
+          all-rules = rules-same (omega (arith, few)) ∙ p .view .all-rules;
+        }
+
+    pub narrow-start : s ≡ p .grammar .start
+    narrow-start =
+        let ok = in-bounds ws (p .view .is) in
+        start-same (omega (arith, ok .start-below, ok .nonterminals, p .first)) ∙ p .first
+
+  module _ (table : List ℕ) where
+    own-of : Are ws (Own table) → Own table (p .grammar)
+    own-of (g, e, own) = rw (reads-unique ws e (p .view .is)) at own
+
+    pub of-words : (b : Bool) → Says b (Own table (p .grammar)) → Says b (Are ws (Own table))
+    of-words b = says-same b (λ own. (p .grammar, p .view .is, own), own-of)
+
+    pub told-its : (b : Bool) → b ≡ true → Says b (Are ws (Own table)) → Tested ws table (Its n start rules)
+    told-its true e z = rw (p .view .nonterminals, p .first, p .view .all-rules) (its (p .view .is) (own-of z))
+    told-its false e z = absurd (false≢true e)
+
+module _ {ws table : List ℕ} where
+  pub told-not-its : (b : Bool) → b ≡ false → Says b (Are ws (Own table)) → Tested ws table NotIts
+  told-not-its true e z = absurd (false≢true (sym e))
+  told-not-its false e z = not-its z
+
+  -- of words that are no grammar, for which no place is noted
+  pub broken-not-its : {q : ℕ} {places : List ℕ} → layout ws ≡ faults q → places ≡ placesOf (layout ws) →
+      TestPromise ws table (record { answer = NotIts; places = places })
+  broken-not-its e noted = record {
+    tested = not-its (λ (g, is, own). let z : _≡_ {A = ℕ} 0 1 = cc in omega arith);
+    stand = noted ∙ ap placesOf e;
+  }
