@@ -112,6 +112,14 @@ all-placed p c q = let (of-leasts, of-contexts) = placed-room p in record {
   of-leads = q;
 }
 
+-- the table is filled with choices that are the first
+pub finished : {ws places : List ℕ} {n rules : ℕ} {vs sizes us totals before after : List ℕ} (chosen leads : List ℕ) →
+    ((g : Grammar) → View ws places n rules g → ChosenOf g vs sizes chosen rules) →
+    ((g : Grammar) → View ws places n rules g → LeadsOf g vs us totals leads (32 * rules)) →
+    after ≡ over (tableOf n rules (foundIn vs chosen us leads totals)) before →
+    Finished ws places n rules vs sizes us totals before after
+finished chosen leads c l f = record { chosen = chosen; leads = leads; of-chosen = c; of-leads = l; filled = f }
+
 -- 7, 3, or the table
 module _ {ws places : List ℕ} {n rules : ℕ} {vs sizes us : List ℕ} (p : Placed ws places n rules vs sizes us) {totals : List ℕ}
     (of-totals : TotalsOf (p .grammar) us sizes totals) (long : 256 ≤ length totals)

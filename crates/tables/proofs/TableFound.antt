@@ -139,6 +139,7 @@ module _ (g : Grammar) (ok : InBounds g) (vs us sizes totals chosen leads : List
 
   -- THE TABLE
   pub table-found : IsTable g (tableOf (g .N) (R g) F)
+  unfolding foundIn
   table-found =
       worked-out g v u ok leasts contexts (record {
         long = table-long (g .N) (R g) F;

@@ -44,8 +44,8 @@ case-of (of-words (unreached A)) = refl
 case-of (of-words (oversize r)) = refl
 case-of (too-short n) = refl
 
-pub one-case : {x y : Case} → answer x ≡ answer y → x ≡ y
-one-case {x} {y} e = sym (case-of x) ∙ ap caseOf e ∙ case-of y
+pub one-case : (x y : Case) → answer x ≡ answer y → x ≡ y
+one-case x y e = sym (case-of x) ∙ ap caseOf e ∙ case-of y
 
 module _ (words before : List ℕ) where
   -- an answer is that of a case that is given
@@ -84,7 +84,7 @@ module _ {words before after : List ℕ} {a : TableAnswer} (p : Tables words bef
   -- EXACTLY WHEN, of every answer
   pub tables-exactly : (x : Case) → (a ≡ answer x) ↔ Given words before x
   tables-exactly x = (
-    λ e. let (y, is, g) = given words before p in subst (Given words before) (one-case (sym is ∙ e)) g,
+    λ e. let (y, is, g) = given words before p in subst (Given words before) {x = y} {y = x} (one-case y x (sym is ∙ e)) g,
     λ h. tables-settles words before p (allowed words before x h .1) .0,
   )
 

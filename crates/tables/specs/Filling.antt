@@ -18,7 +18,7 @@ contextRule q = either (eqb q noChoice) noChoice (q / 32)
 abbrev pub contextPlace : ℕ → ℕ
 contextPlace q = either (eqb q noChoice) noChoice (q % 32)
 
-abbrev pub foundIn : (leasts chosen contexts leads totals : List ℕ) → Figures measure
+unfoldable pub foundIn : (leasts chosen contexts leads totals : List ℕ) → Figures measure
 foundIn leasts chosen contexts leads totals = record {
   least = figure leasts;
   chosen = choice chosen;

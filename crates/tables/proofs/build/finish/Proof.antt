@@ -2,7 +2,7 @@
 use mathlib.Core.Path.{refl}
 use native.Mathlib.Omega.{arith}
 use Rattle.layout.proofs.WordsRead.{view-few}
-use Rattle.tables.proofs.Outcomes.{placed-room, all-placed}
+use Rattle.tables.proofs.Outcomes.{placed-room, all-placed, finished}
 use borrow.Author.Needs.{needs}
 use Rattle.tables.proofs.build.finish.Statement.{statement}
 use Rattle.tables.proofs.build.finish.Tie as tie
@@ -38,13 +38,9 @@ same-length : tie.Need-same-length
 same-length c = search needs
 
 returns : tie.Need-returns
-returns c = record {
-  chosen = _;
-  leads = _;
-  of-chosen = λ g view. c .before .before .before .before .before .before .before .before .before .before .choose-rules .ensures g _ view refl;
-  of-leads = λ g view. c .before .before .before .before .before .before .before .choose-leads .ensures g view refl;
-  filled = c .before .before .fill .ensures;
-}
+returns c =
+    finished _ _ (λ g view. c .before .before .before .before .before .before .before .before .before .before .choose-rules .ensures g _ view refl)
+    (λ g view. c .before .before .before .before .before .before .before .choose-leads .ensures g view refl) (c .before .before .fill .ensures)
 
 pub finish-spec : {M : Type 1} → statement M
 finish-spec =

@@ -2,7 +2,7 @@
 use Prim.Native.Nat.{ℕ}
 use mathlib.Core.Path.{_≡_, ap, _∙_}
 use native.Mathlib.Omega.{arith}
-use Rattle.tables.specs.Filling.{contextRule, contextPlace}
+use Rattle.tables.specs.Filling.{contextRule, contextPlace, foundIn}
 use Rattle.tables.proofs.FiguresFall.{figure-is}
 use Rattle.tables.proofs.FirstsNoted.{choice-is}
 use borrow.Author.Needs.{needs}
@@ -40,6 +40,7 @@ context-place-requires : tie.Need-context-place-requires
 context-place-requires c κs = search needs
 
 returns : tie.Need-returns
+unfolding foundIn
 returns c =
     let a = c .before .before .before .before .before .before .before .before .before .before .args in
     let p = c .before .before .before .before .before .before .before .before .before .before .pre in
