@@ -20,7 +20,7 @@ std::arch::global_asm!(concat!(".section .text.layout,\"axR\"\n.skip ", env!("LA
 mod grammars;
 
 use cases::Order;
-use sides::{Proved, Side, DONE, NEXT};
+use sides::{Proved, Side, DONE, MOST_TABLE, NEXT};
 use works::{repeat, trace, Lent, Trace, Work};
 
 /// How long is measured: so many rounds, in which each side has a batch, of at least so many nanoseconds.
@@ -161,7 +161,7 @@ fn packed(words: &[u16]) -> Vec<u8> {
 }
 
 fn table_of(words: &[u16]) -> Vec<u16> {
-    let mut table = vec![0; 896];
+    let mut table = vec![0; MOST_TABLE];
     let answer = Proved.tables(words, &mut table);
     assert!(answer[0] == DONE, "a grammar of the benchmark is refused");
     table.truncate(answer[1] as usize);

@@ -6,6 +6,7 @@ use std::mem::MaybeUninit;
 #[path = "../examples/vanchiluk.rs"]
 mod vanchiluk;
 pub use vanchiluk::linked::*;
+pub use vanchiluk::MOST_TABLE;
 
 pub const DONE: u64 = 0;
 pub const NEXT: u64 = 1;

@@ -21,7 +21,7 @@ mod works;
 mod grammars;
 
 use cases::Order;
-use sides::{Proved, Side, DONE};
+use sides::{Proved, Side, DONE, MOST_TABLE};
 use works::{trace, Work};
 
 extern "C" {
@@ -208,6 +208,6 @@ fn main() {
     show("pack", "8,707 words", Work::Pack(largest.clone()));
     show("tables", "8,707 words", Work::Tables(largest.clone()));
     show("tables", "chain, random", Work::Tables(random.clone()));
-    show("next, refused 8", "8,707 words", Work::Next { words: largest, table: vec![0; 896], marks: vec![0; 256] });
+    show("next, refused 8", "8,707 words", Work::Next { words: largest, table: vec![0; MOST_TABLE], marks: vec![0; 256] });
     show("next, refused 8", "chain, random", Work::Next { words: random, table: vec![0; 768], marks: vec![0; 128] });
 }

@@ -1,6 +1,6 @@
 //! What is timed: one call with its input, or a whole suite. It is done by either side, into buffers of its own, and leaves a
 //! trace, by which the two are compared before a clock is started.
-use crate::sides::{Side, DONE, NEXT};
+use crate::sides::{Side, DONE, MOST_TABLE, NEXT};
 use std::hint::black_box;
 
 pub enum Work {
@@ -39,7 +39,7 @@ impl Lent {
         Lent {
             file: octets(17417),
             words: noise(8707),
-            table: noise(896),
+            table: noise(MOST_TABLE),
             marks: octets(256),
             sentence: noise(131_072),
             derivation: noise(4096),

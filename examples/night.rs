@@ -34,7 +34,7 @@ fn suite_of(file: &[u8]) -> String {
         Answer::Done { length } => &words[..length],
         other => return refusal(other),
     };
-    let mut table = [0; 5 * 128 + 256];
+    let mut table = [0; vanchiluk::MOST_TABLE];
     let table = match vanchiluk::tables(words, &mut table) {
         Answer::Done { length } => &table[..length],
         other => return refusal(other),

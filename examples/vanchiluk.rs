@@ -12,6 +12,9 @@ pub enum Answer {
     Refused { number: u64, place: usize },
 }
 
+/// The most words of a table (include/vanchiluk.h).
+pub const MOST_TABLE: usize = 896;
+
 /// As the archive has them (include/vanchiluk.h).
 pub mod linked {
     #[link(name = "calls", kind = "static")]

@@ -21,7 +21,7 @@ use vanchiluk::Answer;
 
 /// All that a night answers and writes, one number after the other, by the proved calls.
 fn proved_night(words: &[u16]) -> Vec<u64> {
-    let (mut table, mut marks) = (vec![0; 896], vec![0; 256]);
+    let (mut table, mut marks) = (vec![0; vanchiluk::MOST_TABLE], vec![0; 256]);
     let (mut sentence, mut derivation) = (vec![0; 4096], vec![0; 4096]);
     let mut replayed = vec![0; 4096];
     let mut trace = Vec::new();
@@ -53,7 +53,7 @@ fn noted(answer: Answer) -> Vec<u64> {
 /// The same by the reference, which knows nothing of threads.
 fn reference_night(words: &[u16]) -> Vec<u64> {
     let mut workspace = reference::Workspace::new();
-    let (mut table, mut marks) = (vec![0; 896], vec![0; 256]);
+    let (mut table, mut marks) = (vec![0; vanchiluk::MOST_TABLE], vec![0; 256]);
     let (mut sentence, mut derivation) = (vec![0; 4096], vec![0; 4096]);
     let mut trace = Vec::new();
     let length = match workspace.tables(words, &mut table) {

@@ -27,7 +27,7 @@ fn suite_of(file: &[u8], workspace: &mut Workspace) -> String {
         Answer::Done(count) => words.truncate(count),
         other => return refused(other),
     }
-    let mut table = vec![0; 896];
+    let mut table = vec![0; vanchiluk::MOST_TABLE];
     match workspace.tables(&words, &mut table) {
         Answer::Done(count) => table.truncate(count),
         other => return refused(other),

@@ -14,7 +14,7 @@ WORDS are numbers, and N*W stands for N times W. The table buffer has ROOM words
     ROOM NAME : done LENGTH kept TEST alone, TABLE        or        ROOM NAME : refused NUMBER PLACE kept TEST
 
 `kept` says that what lies past the written length, or all of the buffer where the call refused, has its old content.
-TEST is what `test` says of the words and the buffer afterwards: its RULES, not its, or refused NUMBER PLACE, for 4 to 7. `alone`
+TEST is what `test` says of the words and the buffer afterwards: its N START RULES, or not its. `alone`
 says that it answers `not its` for each table that has one word larger by one.
 """
 import pathlib
@@ -24,6 +24,7 @@ MOST_NONTERMINALS = 128
 MOST_TERMINALS = 1024
 MOST_RULES = 256
 MOST_SYMBOLS = 32
+MOST_TABLE = 5 * MOST_NONTERMINALS + MOST_RULES
 MOST_TOTAL = 4096
 NO_RULE = 65535
 
@@ -322,7 +323,7 @@ def cases():
     yield '6 before 3', [2, 0, 0, 0, 0, 1, 0], 0
     yield '7 before 3', doubled(11), 0
     yield '4 before 3', [3, 4], 0
-    yield 'fullest grammar, exact room', fullest(list), 896
+    yield 'fullest grammar, exact room', fullest(list), MOST_TABLE
     yield 'fullest grammar, one short', fullest(list), 895
 
     # the sizes wrap to small ones in so many bits
@@ -439,11 +440,10 @@ def answered(words, room):
     try:
         table = table_of(words, room)
         rules = len(table) - 5 * words[0]
-        return f'done {len(table)} kept its {rules} alone, ' + ' '.join(map(str, table))
+        return f'done {len(table)} kept its {words[0]} {words[2]} {rules} alone, ' + ' '.join(map(str, table))
     except Refused as refused:
         number, place = refused.args
-        tested = 'not its' if number == 3 else f'refused {number} {place}'
-        return f'refused {number} {place} kept {tested}'
+        return f'refused {number} {place} kept not its'
 
 
 def texts():

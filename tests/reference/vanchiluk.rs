@@ -16,6 +16,8 @@ const MOST_TERMINALS: u16 = 1024;
 const MOST_RULES: usize = 256;
 const MOST_SYMBOLS: u16 = 32;
 
+pub const MOST_TABLE: usize = 5 * MOST_NONTERMINALS as usize + MOST_RULES;
+
 /// "an answer is one of Done, Next, Finished or Refused"
 #[derive(Clone, Copy, PartialEq, Eq, Debug)]
 pub enum Answer {

@@ -1,14 +1,14 @@
 -- The places of a table: the five words of A stand at 5A to 5A + 4, the total of r at 5N + r, and there is no other place. So
 -- what holds at these holds at each of the 5N + R; and words give figures, by these places. Assumes nothing.
-use Prim.Native.Nat.{ℕ, _+_, _*_, _-_, _/_, _%_, _<_}
+use Prim.Native.Nat.{ℕ, _+_, _*_, _-_, _/_, _%_, _≤_, _<_}
 use native.Mathlib.Omega.{arith}
 use native.Mathlib.Decide.{decLt}
 use mathlib.Core.Path.{_≡_}
 use mathlib.Core.List.{List}
 use lib.ListN.{take}
 use lib.Seq.{getD-take}
-use Rattle.grammar.specs.Words.{Grammar, R}
-use Rattle.entries.specs.Table.{tableLength, entry, leastIn, chosenIn, contextIn, ruleIn, placeIn, totalIn}
+use Rattle.grammar.specs.Words.{Grammar, R, InBounds}
+use Rattle.entries.specs.Table.{tableLength, entry, leastIn, chosenIn, contextIn, ruleIn, placeIn, totalIn, mostWords}
 
 pub at-each-place : (g : Grammar) (P : ℕ → Type 0) → ((A j : ℕ) → A < g .N → j < 5 → P (5 * A + j)) →
     ((r : ℕ) → r < R g → P (5 * g .N + r)) → (i : ℕ) → i < tableLength g → P i
@@ -41,3 +41,6 @@ module _ (g : Grammar) (ws : List ℕ) (A : ℕ) (lt : A < g .N) where
 
 pub total-front : (g : Grammar) (ws : List ℕ) (r : ℕ) → r < R g → totalIn (g .N) (take (tableLength g) ws) r ≡ totalIn (g .N) ws r
 total-front g ws r l = getD-take (tableLength g) ws (5 * g .N + r) 0 (omega arith)
+
+pub table-few : (g : Grammar) → InBounds g → tableLength g ≤ mostWords
+table-few g ok = omega (arith, ok .nonterminals, ok .at-most-256)

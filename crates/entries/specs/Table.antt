@@ -18,6 +18,10 @@ lengthFor n rules = 5 * n + rules
 abbrev pub tableLength : Grammar → ℕ
 tableLength g = lengthFor (g .N) (R g)
 
+-- the most words that a table has: those of 128 nonterminals and 256 rules
+abbrev pub mostWords : ℕ
+mostWords = 896
+
 -- "for each nonterminal five words": word j of those of A
 abbrev pub entry : List ℕ → ℕ → ℕ → ℕ
 entry ws A j = getD ws (5 * A + j) 0

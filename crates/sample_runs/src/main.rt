@@ -66,7 +66,7 @@ fn run(name: &[u8], text: &[u8], with_totals: bool) {
     match answer {
         TableAnswer::Done(length) => {
             if with_totals {
-                print_totals(cases::front(&table, length), totals_from(words[0]));
+                print_totals(cases::front(&table, length), entries::length(words[0], 0));
             } else {
                 print::text(b": layout accepted");
             }
@@ -74,11 +74,6 @@ fn run(name: &[u8], text: &[u8], with_totals: bool) {
         TableAnswer::Refused { number, place } => print_refused(number, place),
     }
     print::text(b"\n");
-}
-
-// "for each nonterminal five words .., then one total per rule": the index of the first total in a table of n nonterminals.
-fn totals_from(n: u16) -> usize {
-    5 * (n as usize)
 }
 
 fn print_refused(number: u16, place: usize) {

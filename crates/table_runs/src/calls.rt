@@ -1,7 +1,7 @@
 // The calls. Assumes nothing.
 use cases::UNTOUCHED;
+use table_test::TableTest;
 use tables::TableAnswer;
-use tables::TableTest;
 
 // More words than a grammar has, and than a table.
 const MOST_WORDS: usize = 9000;
@@ -30,7 +30,7 @@ fn run(words: &[u16], table: &mut [u16]) {
 }
 
 fn test(words: &[u16], table: &[u16]) -> TableTest {
-    let testing = tables::test(words, table);
+    let testing = table_test::test(words, table);
     testing.answer
 }
 
@@ -50,12 +50,17 @@ fn print_answer(answer: TableAnswer, table: &[u16]) {
 
 fn print_test(answer: TableTest) {
     match answer {
-        TableTest::Its { rules } => {
+        TableTest::Its {
+            nonterminals,
+            start,
+            rules,
+        } => {
             print::text(b" its");
+            print::number(nonterminals);
+            print::number(start);
             print::number(rules);
         }
         TableTest::NotIts => print::text(b" not its"),
-        TableTest::Refused { number, place } => print::refused(number, place),
     }
 }
 
@@ -98,6 +103,10 @@ fn fails_changed(words: &[u16], table: &mut [u16], at: usize) -> bool {
     table[at] = old;
     match answer {
         TableTest::NotIts => true,
-        _ => false,
+        TableTest::Its {
+            nonterminals: _,
+            start: _,
+            rules: _,
+        } => false,
     }
 }
