@@ -11,7 +11,7 @@ use Rattle.grammar.specs.Terms.{measure, limit}
 use Rattle.grammar.specs.Refusals.{AllTrees, AllReached, AllFit, Accepted}
 use Rattle.grammar.specs.Certificates.{Leasts, Contexts}
 use Rattle.grammar.specs.Samples.{D, empty-rule, D-table, loop}
-use Rattle.entries.specs.Table.{tableLength, entry, leastIn, chosenIn, contextIn, ruleIn, placeIn, totalIn, mostWords, IsTable, HasTable}
+use Rattle.entries.specs.Table.{tableLength, entry, leastIn, chosenIn, contextIn, ruleIn, placeIn, totalIn, mostTable, IsTable, HasTable}
 use Rattle.entries.specs.TableCertificates.{Passes, passes?, WorkedOut}
 use Rattle.entries.specs.Writing.{withEntries, withTotal}
 use Rattle.entries.specs.declared.Entries.{Entries}
@@ -69,7 +69,7 @@ pub total-front : (g : Grammar) (ws : List ℕ) (r : ℕ) → r < R g → totalI
 total-front = TablePlaces.total-front
 
 -- It has 896 words at most.
-pub table-few : (g : Grammar) → InBounds g → tableLength g ≤ mostWords
+pub table-few : (g : Grammar) → InBounds g → tableLength g ≤ mostTable
 table-few = TablePlaces.table-few
 
 -- Words worked out from leasts and contexts, each choice the first that comes to its figure, are the table.

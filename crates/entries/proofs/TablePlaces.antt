@@ -8,7 +8,7 @@ use mathlib.Core.List.{List}
 use lib.ListN.{take}
 use lib.Seq.{getD-take}
 use Rattle.grammar.specs.Words.{Grammar, R, InBounds}
-use Rattle.entries.specs.Table.{tableLength, entry, leastIn, chosenIn, contextIn, ruleIn, placeIn, totalIn, mostWords}
+use Rattle.entries.specs.Table.{tableLength, entry, leastIn, chosenIn, contextIn, ruleIn, placeIn, totalIn, mostTable}
 
 pub at-each-place : (g : Grammar) (P : ℕ → Type 0) → ((A j : ℕ) → A < g .N → j < 5 → P (5 * A + j)) →
     ((r : ℕ) → r < R g → P (5 * g .N + r)) → (i : ℕ) → i < tableLength g → P i
@@ -42,5 +42,5 @@ module _ (g : Grammar) (ws : List ℕ) (A : ℕ) (lt : A < g .N) where
 pub total-front : (g : Grammar) (ws : List ℕ) (r : ℕ) → r < R g → totalIn (g .N) (take (tableLength g) ws) r ≡ totalIn (g .N) ws r
 total-front g ws r l = getD-take (tableLength g) ws (5 * g .N + r) 0 (omega arith)
 
-pub table-few : (g : Grammar) → InBounds g → tableLength g ≤ mostWords
+pub table-few : (g : Grammar) → InBounds g → tableLength g ≤ mostTable
 table-few g ok = omega (arith, ok .nonterminals, ok .at-most-256)

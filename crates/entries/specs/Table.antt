@@ -19,8 +19,8 @@ abbrev pub tableLength : Grammar → ℕ
 tableLength g = lengthFor (g .N) (R g)
 
 -- the most words that a table has: those of 128 nonterminals and 256 rules
-abbrev pub mostWords : ℕ
-mostWords = 896
+abbrev pub mostTable : ℕ
+mostTable = 896
 
 -- "for each nonterminal five words": word j of those of A
 abbrev pub entry : List ℕ → ℕ → ℕ → ℕ

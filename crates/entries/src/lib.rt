@@ -10,7 +10,7 @@ use cells::read;
 use cells::wide;
 
 // The most words of a table: those of 128 nonterminals and 256 rules.
-pub const MOST_WORDS: usize = 896;
+pub const MOST_TABLE: usize = 896;
 
 // The largest total that is accepted.
 pub const LIMIT: usize = 4096;

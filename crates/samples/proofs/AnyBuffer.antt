@@ -19,14 +19,8 @@ same-refusal {n} {n′} {p} {p′} e = let a : n ≡ n′ = cc in let b : p ≡ 
 
 pub refused-of-any : {words one after : List ℕ} {a : TableAnswer} {number place : ℕ} → Tables words one a after →
     a ≡ table-answer.Refused number place → 4 ≤ number → Holds (refusal-of words number place)
-refused-of-any (tables.row-4 e) same l =
-    (λ before. rw (← same) (tables.row-4 e), λ table before. rw (← same-refusal same) (next.row-4 e))
-refused-of-any (tables.row-5 e low) same l =
-    (λ before. rw (← same) (tables.row-5 e low), λ table before. rw (← same-refusal same) (next.row-5 e low))
-refused-of-any (tables.row-6 e t low) same l =
-    (λ before. rw (← same) (tables.row-6 e t low), λ table before. rw (← same-refusal same) (next.row-6 e t low))
-refused-of-any (tables.row-7 e t u low) same l =
-    (λ before. rw (← same) (tables.row-7 e t u low), λ table before. rw (← same-refusal same) (next.row-7 e t u low))
-refused-of-any {number = number} (tables.row-3 e t u f short) same l =
+refused-of-any (tables.row-4-7 x) same l =
+    (λ before. rw (← same) (tables.row-4-7 x), λ table before. rw (← same-refusal same) (next.row-4-7 x))
+refused-of-any {number = number} (tables.row-3 e a short) same l =
     let three : _≡_ {A = ℕ} 3 number = cc in absurd (omega arith)
-refused-of-any (tables.done e t u f room is) same l = absurd (let z : _≡_ {A = ℕ} 0 1 = cc in omega arith)
+refused-of-any (tables.row-done e a room is) same l = absurd (let z : _≡_ {A = ℕ} 0 1 = cc in omega arith)

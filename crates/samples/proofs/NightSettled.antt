@@ -11,7 +11,7 @@ use Rattle.answers.specs.Buffers.{over}
 use Rattle.answers.proofs.WrittenFromFront.{written}
 use Rattle.grammar.specs.Words.{Grammar, R, layout, reads}
 use Rattle.grammar.specs.Tree.{sentence, derivation}
-use Rattle.handout.specs.Next.{NextPromise, Lent, AllUnused, next, finished}
+use Rattle.handout.specs.Next.{NextPromise, Lent, AllUnused, row-next, row-finished}
 use Rattle.handout.specs.Night.{Handout, handout, Night, clear, later, Over}
 use Rattle.handout.specs.declared.NextAnswer.the-variants.{Next, Finished}
 use Rattle.handout.specs.Given.{Handed}
@@ -39,7 +39,7 @@ module _ (words table : List ℕ) {target n m : ℕ} {before after : Lent} {g : 
       let (s-fits, t-fits) = room-for s (sentence (h .t)) in
       let (d-fits, u-fits) = room-for d (derivation (h .t)) in
       next-settles words table (lent (before .marks) tokens-room rules-room)
-      (next (h .wanted) t-fits u-fits (h .marks))
+      (row-next (h .wanted) t-fits u-fits (h .marks))
       (row tokens-room rules-room s-fits d-fits)
 
   -- what stands in front of two equal buffers
@@ -118,7 +118,7 @@ module _ (words table : List ℕ) {g : Grammar} (e : layout words ≡ reads g) (
           NextPromise words table (lent (o .before .marks) tokens rules) Finished (lent (o .before .marks) tokens rules))
       given =
           let (k, read, (own, l, used)) = next-finished (o .ends) .0 refl in
-          (rw (same-grammar read) at l, λ tokens rules. finished read (own .0) (own .1) l used)
+          (rw (same-grammar read) at l, λ tokens rules. row-finished read (own .0) (own .1) l used)
 
       z : SoFar handed (o .before .marks)
       z = so-far (o .night) (given .0)

@@ -14,6 +14,7 @@ use Rattle.packed.specs.File.{fileOf}
 use Rattle.packed.proofs.Main.{unpack-fileOf}
 use Rattle.grammar.specs.Words.{Grammar, R, Judged, reads, faults, layout}
 use Rattle.grammar.specs.Refusals.{Accepted}
+use Rattle.grammar.specs.Rows.{row-4}
 use Rattle.grammar.specs.Tree.{Tree, plug, StandsIn}
 use Rattle.grammar.specs.FigureTests.{each}
 use Rattle.grammar.specs.Replaying.{Replayed, derived, stopped, replay}
@@ -24,7 +25,7 @@ use Rattle.replay.specs.Replay.{mostNumbers}
 use Rattle.entries.specs.Table.{totalIn, IsTable}
 use Rattle.tables.specs.Promise as tables
 use Rattle.entries.specs.TableCertificates.{passes?}
-use Rattle.tables.proofs.Main.{computed-table}
+use Rattle.entries.proofs.Main.{computed-table}
 use Rattle.replay.specs.Replay as replayed
 use Rattle.samples.specs.Row.{Row, unpack-of, tables-of, replay-of, refusal-of, night-of, Result, writes, refuses}
 use Rattle.samples.specs.Row.{Holds, All, no-more, _and_}
@@ -103,12 +104,12 @@ table-sound words (writes table) (reads g) e t =
     let (passes, fits) = and-eq-true-iff (passes? g table) (totals-fit? g table) .0 t in
     let is = computed-table (layout-exact words g .0 e .0) table passes in
     let a = table-accepts is fits in
-    λ before room. rw (is .long) (tables.done e (a .trees) (a .reached) (a .fit) (rw (is .long) at room) is)
+    λ before room. rw (is .long) (tables.row-done e a (rw (is .long) at room) is)
 table-sound words (refuses number place) (reads g) e t = absurd (false≢true t)
 table-sound words (writes table) (faults p) e t = absurd (false≢true t)
 table-sound words (refuses number place) (faults p) e t =
     let (four, at) = and-eq-true-iff (eqb number 4) (eqb place p) .0 t in
-    λ before. rw (eqb-true number 4 four, eqb-true place p at) (tables.row-4 e)
+    λ before. rw (eqb-true number 4 four, eqb-true place p at) (tables.row-4-7 (row-4 e))
 
 refused-sound : (words : List ℕ) (number place : ℕ) (j : Judged Grammar) → layout words ≡ j →
     So (table? j (refuses number place)) → Holds (refusal-of words number place)
@@ -116,7 +117,7 @@ refused-sound words number place (reads g) e t = absurd (false≢true t)
 refused-sound words number place (faults p) e t =
     let (four, at) = and-eq-true-iff (eqb number 4) (eqb place p) .0 t in
     let at-p : place ≡ p = eqb-true place p at in
-    rw (eqb-true number 4 four, at-p) (refused-of-any {one = []} (tables.row-4 e) refl (omega arith))
+    rw (eqb-true number 4 four, at-p) (refused-of-any {one = []} (tables.row-4-7 (row-4 e)) refl (omega arith))
 
 replay-sound : (list words : List ℕ) (r : Result) (j : Judged Grammar) → layout words ≡ j → So (replay? j list r) →
     Holds (replay-of list words r)

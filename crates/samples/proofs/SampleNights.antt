@@ -15,8 +15,8 @@ use Rattle.grammar.specs.Refusals.{Lowest, Accepted}
 use Rattle.grammar.proofs.Main.{tree-of-same}
 use Rattle.grammar.specs.Samples.{empty-rule, loop}
 use Rattle.entries.specs.Table.{IsTable, HasTable}
-use Rattle.tables.proofs.Main.{empty-has-table, loop-has-table}
-use Rattle.handout.specs.Next.{Unused, AllUsed, Marked, Wanted, next, finished}
+use Rattle.entries.proofs.Main.{empty-has-table, loop-has-table}
+use Rattle.handout.specs.Next.{Unused, AllUsed, Marked, Wanted, row-next, row-finished}
 use Rattle.handout.specs.Night.{handout}
 use Rattle.handout.specs.Given.{GivenNext, Handed}
 use Rattle.handout.proofs.Main.{next-met, next-next, next-writes}
@@ -65,8 +65,8 @@ module _ (words table : List ℕ) {g : Grammar} (e : layout words ≡ reads g) (
       } in
       let (marked, m) = marks-left rest marks wanted in (
         marked,
-        λ tokens rules l k. next wanted l k m,
-        λ tokens rules. finished e a (tabled rest) (omega (arith, c .enough, m .long)) (all-used c m),
+        λ tokens rules l k. row-next wanted l k m,
+        λ tokens rules. row-finished e a (tabled rest) (omega (arith, c .enough, m .long)) (all-used c m),
       )
 
   pub one-sentence : Holds (night-of words table (handout 0 (sentence t) (derivation t) ∷ []))

@@ -6,7 +6,12 @@ use mathlib.Core.Bool.{true, false}
 use mathlib.Core.List.{List, [], append-nil}
 use lib.ListN.{length, take}
 use lib.Seq.{length-take-le}
-use Rattle.answers.specs.Refusals.{number, broken-layout}
+use Rattle.answers.specs.GrammarRefusals as row
+use Rattle.answers.specs.GrammarRefusals.{GrammarRefusal, number, broken-layout}
+use Rattle.grammar.specs.Rows.{GrammarRefused}
+use Rattle.grammar.specs.Terms.{limit}
+use Rattle.entries.specs.Table.{mostTable}
+use Rattle.entries.proofs.Main.{table-few}
 use Rattle.grammar.specs.Words.{Grammar, R, Judged, layout, reads, faults}
 use Rattle.layout.specs.Judge.{answerOf}
 use Rattle.layout.specs.declared.judge.LayoutAnswer.the-variants as layout-answer
@@ -14,9 +19,9 @@ use Rattle.grammar.proofs.LayoutExact.{in-bounds, reads-unique}
 use Rattle.packed.specs.Promise.{Unpacked}
 use Rattle.packed.specs.declared.FileAnswer.the-variants as file-answer
 use Rattle.packed.proofs.Main.{after-unpack, passes-exactly}
-use Rattle.tables.specs.Promise.{Tables}
+use Rattle.tables.specs.Promise.{Tables, row-4-7, row-3}
 use Rattle.tables.specs.declared.TableAnswer.the-variants as table-answer
-use Rattle.tables.proofs.Main.{tables-done, tables-writes}
+use Rattle.tables.proofs.Main.{tables-own}
 use Rattle.handout.specs.Night.{clear}
 use Rattle.lines.specs.Lines.{suiteLine, refusedLine, mostLine}
 use Rattle.lines.specs.Room.{Written}
@@ -77,14 +82,19 @@ judged-fault words {text} {so} {p} e line = go (layout words) refl e
 pub with-table : {words before after text : List ℕ} {so : Piece} {n : ℕ} → Tables words before (table-answer.Done n) after →
     FirstLine words text so → OfWords words after text so
 with-table {words} {n = n} p (of-grammar {g = g} e line) =
-    let (h, read, (accepted, long, room)) = tables-done p n .0 refl in
-    let (k, read′, written) = tables-writes p n refl in
+    let (h, read, own) = tables-own p n refl in
     let same : h ≡ g = reads-unique words read e in
-    let same′ : k ≡ g = reads-unique words read′ e in
-    begun.accepted e (rw same at accepted) (rw same′ at (written .table)) line
+    let (accepted, table) = rw same at own in
+    begun.accepted e accepted table line
 with-table {n = n} p (of-fault e line) =
-    let (h, read, rest) = tables-done p n .0 refl in
+    let (h, read, rest) = tables-own p n refl in
     absurd (let z : _≡_ {A = ℕ} 0 1 = cc in omega arith)
+
+-- a refusal where there is room is one of rows 4 to 7
+of-rows : {words before after : List ℕ} {k p : ℕ} → mostTable ≤ length before → Tables words before (table-answer.Refused k p) after →
+    (x : GrammarRefusal) × GrammarRefused limit words x × (k ≡ row.number x) × (p ≡ row.place x)
+of-rows room (row-4-7 {x = x} r) = (x, r, refl, refl)
+of-rows {words} room (row-3 {g = g} e a h) = absurd (omega (arith, table-few g (in-bounds words e)))
 
 -- by what `unpack` answers
 pub begun-refused : {file words before after table text : List ℕ} {so : Piece} {number place : ℕ} → 8707 ≤ length before →
@@ -105,11 +115,13 @@ unpacks {file} p =
 pub begun-words : {file before after table text : List ℕ} {so : Piece} {n : ℕ} → Unpacked file before (file-answer.Done n) after →
     OfWords (take n after) table text so → Begun file after table text so
 unfolding sentenceLines
-begun-words p (begun.refused-words room tables line) = record {
-  words-within = omega (arith, line .words);
-  within = line .within;
-  so-far = λ marks zeros. whole (line .over) (rw (line .front) (refused-words (unpacks p .0) room tables));
-}
+begun-words p (begun.refused-words room tables line) =
+    let (x, refused, number-is, place-is) = of-rows room tables in
+    record {
+      words-within = omega (arith, line .words);
+      within = line .within;
+      so-far = λ marks zeros. whole (line .over) (rw (line .front, number-is, place-is) (refused-words (unpacks p .0) refused));
+    }
 begun-words {after = after} {so = so} {n = n} p (begun.accepted {g = g} e a h line) =
     let (file-words, fits) = unpacks p in
     let long = length-take-le n after fits in

@@ -1,12 +1,19 @@
--- The text of a file is settled: there is one, and no other. Into buffers with room for all, `unpack` and `tables` refuse by the
--- file alone; and a night is settled. Assumes nothing.
+-- The text of a file is settled: there is one, and no other. Into a buffer with room for all `unpack` refuses by the file alone, rows
+-- 4 to 7 refuse words in one way, and a night is settled. Assumes nothing.
 use Prim.Native.Nat.{ℕ, _%_, _≤_, _<_}
 use native.Mathlib.Omega.{arith}
 use native.Mathlib.Decide.{decLt, ℕ-discrete}
-use mathlib.Core.Path.{_≡_, refl, sym, _∙_}
+use mathlib.Core.Path.{_≡_, refl, sym, ap, _∙_}
+use mathlib.Core.Logic.{_⊎_, inl, inr}
 use mathlib.Core.List.{List}
 use lib.ListN.{length, getD, replicate, length-replicate}
-use Rattle.grammar.specs.Words.{Grammar, layout, reads}
+use lib.Seq.{take-all}
+use Rattle.answers.specs.GrammarRefusals.{GrammarRefusal, number, place}
+use Rattle.grammar.specs.Words.{Grammar, layout, reads, Are}
+use Rattle.grammar.specs.Refusals.{Accepted}
+use Rattle.grammar.specs.Rows.{GrammarRefused}
+use Rattle.grammar.proofs.FirstRows.{refused-unique, refused-or-accepted}
+use Rattle.grammar.proofs.FirstRowsMet.{refused?}
 use Rattle.grammar.specs.Terms.{limit}
 use Rattle.grammar.proofs.LayoutExact.{in-bounds, reads-unique}
 use Rattle.packed.specs.File.{said, following, wordsIn}
@@ -16,11 +23,8 @@ use Rattle.packed.specs.Promise.BadLength.{under-three, odd, above, not-followi
 use Rattle.packed.specs.Promise.Unpacked.{wrong-version, wrong-length, no-room-for-words, all-words}
 use Rattle.packed.specs.declared.FileAnswer.the-variants as file-answer
 use Rattle.packed.proofs.Main.{unpack-settles, passes-exactly}
-use Rattle.entries.specs.Table.{tableLength}
-use Rattle.tables.specs.Promise.{Tables, row-4, row-5, row-6, row-7, row-3, done}
-use Rattle.tables.specs.declared.TableAnswer.{TableAnswer}
-use Rattle.tables.specs.declared.TableAnswer.the-variants as table-answer
-use Rattle.tables.proofs.Main.{tables-settles, tables-met, tables-done, tables-writes}
+use Rattle.entries.specs.Table.{tableLength, HasTable}
+use Rattle.entries.proofs.Main.{table-exists}
 use Rattle.handout.specs.Night.{Handout, Over}
 use Rattle.handout.proofs.Main.{night-ends}
 use Rattle.lines.specs.Lines.{refusedLine}
@@ -30,9 +34,6 @@ use Rattle.suite.proofs.NightSettled.{night-settles}
 few-words : {file words : List ℕ} → Unpacks file words → length (wordsIn file) ≤ 8707
 few-words {file} u = passes-exactly file .0 (u .version, u .long) .most
 
-few-table-words : (words : List ℕ) {g : Grammar} → layout words ≡ reads g → tableLength g ≤ 896
-few-table-words words e = let ok = in-bounds words e in omega (arith, ok .nonterminals, ok .at-most-256)
-
 -- with room, a refusal is the same into any other buffer with room
 file-refused : {file before after : List ℕ} {k p : ℕ} → 8707 ≤ length before →
     Unpacked file before (file-answer.Refused k p) after → (other : List ℕ) → 8707 ≤ length other →
@@ -41,26 +42,13 @@ file-refused room (wrong-version h) other l = wrong-version h
 file-refused room (wrong-length v h) other l = wrong-length v h
 file-refused {file} room (no-room-for-words v h k) other l = absurd (omega (arith, passes-exactly file .0 (v, h) .most))
 
-words-refused : {words before after : List ℕ} {k p : ℕ} → 896 ≤ length before →
-    Tables words before (table-answer.Refused k p) after → (other : List ℕ) → 896 ≤ length other →
-    Tables words other (table-answer.Refused k p) other
-words-refused room (row-4 e) other l = row-4 e
-words-refused room (row-5 e low) other l = row-5 e low
-words-refused room (row-6 e t low) other l = row-6 e t low
-words-refused room (row-7 e t u low) other l = row-7 e t u low
-words-refused {words} room (row-3 e t u f h) other l = absurd (omega (arith, few-table-words words e))
-
 line-same : {k p k′ p′ : ℕ} → k ≡ k′ → p ≡ p′ → refusedLine k p ≡ refusedLine k′ p′
 line-same e f = rw (e, f) refl
 
-words-words : {words words′ b a b′ a′ : List ℕ} {k p k′ p′ : ℕ} → words ≡ words′ → 896 ≤ length b →
-    Tables words b (table-answer.Refused k p) a → 896 ≤ length b′ → Tables words′ b′ (table-answer.Refused k′ p′) a′ →
-    refusedLine k p ≡ refusedLine k′ p′
-words-words {words} {b′ = b′} {k = k} {p = p} {k′ = k′} {p′ = p′} same room h room′ h′ =
-    let e = tables-settles words b′ (words-refused room h b′ room′) (rw (sym same) at h′) .0 in
-    let number : k ≡ k′ = cc in
-    let place : p ≡ p′ = cc in
-    line-same number place
+words-words : {words words′ : List ℕ} {x y : GrammarRefusal} → words ≡ words′ → GrammarRefused limit words x →
+    GrammarRefused limit words′ y → refusedLine (number x) (place x) ≡ refusedLine (number y) (place y)
+words-words {words} same h h′ =
+    ap (λ (z : GrammarRefusal). refusedLine (number z) (place z)) (refused-unique limit words h (rw (sym same) at h′))
 
 -- of one file
 module _ {file : List ℕ} where
@@ -82,27 +70,20 @@ module _ {file : List ℕ} where
   words-same : {words words′ : List ℕ} → Unpacks file words → Unpacks file words′ → words ≡ words′
   words-same u v = u .are ∙ sym (v .are)
 
-  words-suite : {words words′ table b a : List ℕ} {g : Grammar} {k p : ℕ} → words ≡ words′ → 896 ≤ length b →
-      Tables words b (table-answer.Refused k p) a → Accepts file words′ table g → ⊥
-  words-suite {words} {words′} {table} {b} {g = g} same room h s =
-      let a = s .accepted in
-      let fits = few-table-words words′ (s .grammar) in
-      let e =
-      tables-settles words′ b (rw same at h)
-      (done (s .grammar) (a .trees) (a .reached) (a .fit) (omega arith) (s .tabled)) .0 in
-      let z : _≡_ {A = ℕ} 0 1 = cc in
-      omega arith
+  words-suite : {words words′ table : List ℕ} {g : Grammar} {x : GrammarRefusal} → words ≡ words′ → GrammarRefused limit words x →
+      Accepts file words′ table g → ⊥
+  words-suite {words} {words′} same h s = refused-or-accepted limit words′ (rw same at h) (s .grammar) (s .accepted)
 
 -- SETTLED
 pub text-settles : {file a b : List ℕ} → Text file a → Text file b → a ≡ b
 text-settles (refused-file room h) (refused-file room′ h′) = file-file room h room′ h′
-text-settles (refused-file room h) (refused-words u room′ h′) = absurd (file-words room h u)
+text-settles (refused-file room h) (refused-words u h′) = absurd (file-words room h u)
 text-settles (refused-file room h) (suite s o) = absurd (file-words room h (s .unpacks))
-text-settles (refused-words u room h) (refused-file room′ h′) = absurd (file-words room′ h′ u)
-text-settles (refused-words u room h) (refused-words u′ room′ h′) = words-words (words-same u u′) room h room′ h′
-text-settles (refused-words u room h) (suite s o) = absurd (words-suite (words-same u (s .unpacks)) room h s)
+text-settles (refused-words u h) (refused-file room′ h′) = absurd (file-words room′ h′ u)
+text-settles (refused-words u h) (refused-words u′ h′) = words-words (words-same u u′) h h′
+text-settles (refused-words u h) (suite s o) = absurd (words-suite (words-same u (s .unpacks)) h s)
 text-settles (suite s o) (refused-file room′ h′) = absurd (file-words room′ h′ (s .unpacks))
-text-settles (suite s o) (refused-words u room h) = absurd (words-suite (words-same u (s .unpacks)) room h s)
+text-settles (suite s o) (refused-words u h) = absurd (words-suite (words-same u (s .unpacks)) h s)
 text-settles (suite {words = words} {g = g} {hs = hs} s o) (suite {words = words′} {g = g′} {hs = hs′} s′ o′) =
     let same : words ≡ words′ = words-same (s .unpacks) (s′ .unpacks) in
     let grammars : g ≡ g′ = reads-unique words (s .grammar) (rw same (s′ .grammar)) in
@@ -149,23 +130,20 @@ with-night : {file words table : List ℕ} {g : Grammar} → Accepts file words 
 with-night {g = g} s (hs, o) = (suiteText g hs, suite s o)
 
 module _ {file words : List ℕ} (u : Unpacks file words) where
-  with-table : {before after : List ℕ} {n : ℕ} → Tables words before (table-answer.Done n) after → (out : List ℕ) × Text file out
-  with-table {after = after} {n = n} h =
-      let (g, e, (accepted, long, room)) = tables-done h n .0 refl in
-      let (k, read, written) = tables-writes h n refl in
-      let same : k ≡ g = reads-unique words read e in
-      let tabled = rw same at (written .table) in
+  with-grammar : {g : Grammar} → layout words ≡ reads g → Accepted limit g → (out : List ℕ) × Text file out
+  with-grammar {g} e a =
+      let (table, is) = table-exists g (in-bounds words e) (a .trees) (a .reached) in
+      let own : HasTable g table = rw (take-all (tableLength g) table (omega (arith, is .long))) is in
       let (buffer, enough) = roomy limit in
-      with-night (record { unpacks = u; grammar = e; accepted = accepted; tabled = tabled })
-      (night-ends words after e accepted tabled buffer buffer enough enough)
+      with-night (record { unpacks = u; grammar = e; accepted = a; tabled = own })
+      (night-ends words table e a own buffer buffer enough enough)
 
   of-words : (out : List ℕ) × Text file out
-  of-words = let (before, room) = roomy 896 in go room (tables-met words before)
+  of-words = go (refused? limit words)
     where
-      go : {before : List ℕ} → 896 ≤ length before → (a : TableAnswer) × (after : List ℕ) × Tables words before a after →
-          (out : List ℕ) × Text file out
-      go room (table-answer.Refused k p, after, h) = (refusedLine k p, refused-words u room h)
-      go room (table-answer.Done n, after, h) = with-table h
+      go : ((x : GrammarRefusal) × GrammarRefused limit words x) ⊎ Are words (Accepted limit) → (out : List ℕ) × Text file out
+      go (inl (x, h)) = (refusedLine (number x) (place x), refused-words u h)
+      go (inr (g, e, a)) = with-grammar e a
 
 pub file-line : {file : List ℕ} {k p : ℕ} → ((before : List ℕ) → Unpacked file before (file-answer.Refused k p) before) →
     Text file (refusedLine k p)

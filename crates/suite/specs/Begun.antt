@@ -5,11 +5,11 @@ use mathlib.Core.Path.{_≡_}
 use mathlib.Core.Bool.{true, false}
 use mathlib.Core.List.{List}
 use lib.ListN.{length, take}
-use Rattle.answers.specs.Refusals.{number, broken-layout}
+use Rattle.answers.specs.GrammarRefusals.{number, broken-layout}
 use Rattle.grammar.specs.Words.{Grammar, layout, reads, faults}
 use Rattle.grammar.specs.Refusals.{Accepted}
 use Rattle.grammar.specs.Terms.{limit}
-use Rattle.entries.specs.Table.{HasTable}
+use Rattle.entries.specs.Table.{mostTable, HasTable}
 use Rattle.tables.specs.Promise.{Tables}
 use Rattle.tables.specs.declared.TableAnswer.the-variants.{Refused}
 use Rattle.lines.specs.Lines.{refusedLine}
@@ -39,7 +39,7 @@ pub data FirstLine (words text : List ℕ) (so : Piece) : Type 0 where
 
 -- of words, by what `tables` answers
 pub data OfWords (words table text : List ℕ) (so : Piece) : Type 0 where
-  refused-words : {before : List ℕ} {number place : ℕ} → 896 ≤ length before → Tables words before (Refused number place) table →
+  refused-words : {before : List ℕ} {number place : ℕ} → mostTable ≤ length before → Tables words before (Refused number place) table →
       OneLine number place text so → OfWords words table text so
   accepted : {g : Grammar} → layout words ≡ reads g → Accepted limit g → HasTable g table → SuiteLine g (length words) text so →
       OfWords words table text so

@@ -1,7 +1,7 @@
 -- The text that the program is to print for a file. Document 01: "The first line has N, T, R. Each next line has target, token
 -- count, tokens, rule count, rule numbers. The last has the sentence count. A refused file prints the one line `refused`, number,
--- place". The refusals are those of `unpack` and `tables` into buffers with room for all that they can write, so that none is for
--- room; the sentences are those of a night that is over (crates/handout, specs/Night). Assumes nothing.
+-- place". The refusals are those of `unpack` into a buffer with room for all that it can write, and rows 4 to 7 of the words; the
+-- sentences are those of a night that is over (crates/handout, specs/Night). Assumes nothing.
 use Prim.Native.Nat.{ℕ, _≤_}
 use mathlib.Core.Path.{_≡_}
 use mathlib.Core.List.{List, [], _∷_, _++_}
@@ -9,12 +9,13 @@ use lib.ListN.{length}
 use Rattle.packed.specs.File.{wordsIn}
 use Rattle.packed.specs.Promise.{NotVersionOne, BadLength, Unpacked}
 use Rattle.packed.specs.declared.FileAnswer.the-variants as file-answer
+use Rattle.answers.specs.GrammarRefusals as row
+use Rattle.answers.specs.GrammarRefusals.{GrammarRefusal}
 use Rattle.grammar.specs.Words.{Grammar, R, layout, reads}
+use Rattle.grammar.specs.Rows.{GrammarRefused}
 use Rattle.grammar.specs.Refusals.{Accepted}
 use Rattle.grammar.specs.Terms.{limit}
 use Rattle.entries.specs.Table.{HasTable}
-use Rattle.tables.specs.Promise.{Tables}
-use Rattle.tables.specs.declared.TableAnswer.the-variants as table-answer
 use Rattle.handout.specs.Night.{Handout, handout, Over}
 use Rattle.lines.specs.Lines.{suiteLine, sentenceLine, endLine, refusedLine}
 
@@ -43,11 +44,11 @@ pub record Accepts (file words table : List ℕ) (g : Grammar) : Type 0 where
   pub accepted : Accepted limit g
   pub tabled : HasTable g table
 
--- THE TEXT of a file. A file has at most 8,707 words, a table at most 896.
+-- THE TEXT of a file, which has at most 8,707 words.
 pub data Text (file : List ℕ) : List ℕ → Type 0 where
   refused-file : {before after : List ℕ} {number place : ℕ} → 8707 ≤ length before →
       Unpacked file before (file-answer.Refused number place) after → Text file (refusedLine number place)
-  refused-words : {words before after : List ℕ} {number place : ℕ} → Unpacks file words → 896 ≤ length before →
-      Tables words before (table-answer.Refused number place) after → Text file (refusedLine number place)
+  refused-words : {words : List ℕ} {x : GrammarRefusal} → Unpacks file words → GrammarRefused limit words x →
+      Text file (refusedLine (row.number x) (row.place x))
   suite : {words table : List ℕ} {g : Grammar} {hs : List Handout} → Accepts file words table g → Over words table hs →
       Text file (suiteText g hs)

@@ -7,12 +7,15 @@ ghost use Prim.Native.Nat.{_≤_};
 ghost use mathlib.Core.Path.{_≡_};
 ghost use mathlib.Core.Bool.{false};
 ghost use lib.ListN.{length};
+ghost use Rattle.entries.specs.Table.{mostTable};
 ghost use Rattle.handout.specs.Next.{Lent};
 ghost use Rattle.lines.specs.Lines.{mostLine};
 ghost use Rattle.suite.specs.Answered.{Ended, Answered};
 ghost use Rattle.suite.specs.Begun.{OneLine, FirstLine, OfWords, Begun};
 ghost use Rattle.suite.specs.Filled.{Waits, Filled};
 ghost use Rattle.suite.specs.Pieces.{Clear, Large, FirstPiece, Reached, NextPiece, Made};
+use entries::LIMIT;
+use entries::MOST_TABLE;
 use handout::NextAnswer;
 use layout::judge;
 use layout::judge::LayoutAnswer;
@@ -22,15 +25,10 @@ use tables::TableAnswer;
 // "The program reads at most 17,418 octets": one more than the longest file has.
 const MOST_READ: usize = 17418;
 
-// The most words of a file, words of a table (5 for each of 128 nonterminals, 1 for each rule), rules, and numbers of a sentence
-// and its derivation: with these no call is refused for room.
+// The most words of a file and the most rules: with these, and those of a table and of a sentence, no call is refused for room.
 const MOST_WORDS: usize = 8707;
 
-const MOST_TABLE: usize = 896;
-
 const MOST_RULES: usize = 256;
-
-const MOST_NUMBERS: usize = 4096;
 
 // The most octets of a line (`sentence-few` and the others of crates/lines).
 const MOST_LINE: usize = 24594;
@@ -83,7 +81,7 @@ fn first_piece(
     marks: &mut [u8],
     text: &mut [u8],
 ) -> Piece
-    requires { ⌜ (8707 ≤ length (now words)) × (896 ≤ length (now table)) ⌝ }
+    requires { ⌜ (8707 ≤ length (now words)) × (mostTable ≤ length (now table)) ⌝ }
     requires { ⌜ Large (now marks) (now text) ⌝ }
     requires { ⌜ Clear (now file) (now marks) ⌝ }
     ensures { λ r. ⌜ FirstPiece (now (file .entry)) (now (words .exit)) (now (table .exit)) (now (marks .exit))
@@ -124,8 +122,8 @@ fn fill(words: &[u16], table: &[u16], marks: &mut [u8], text: &mut [u8], begun: 
     ensures { λ r. ⌜ Filled (now (words .entry)) (now (table .entry)) (now (marks .entry)) (now (marks .exit))
         (now (text .entry)) (now (text .exit)) begun r ⌝ }
 {
-    let mut sentence = [0u16; MOST_NUMBERS];
-    let mut derivation = [0u16; MOST_NUMBERS];
+    let mut sentence = [0u16; LIMIT];
+    let mut derivation = [0u16; LIMIT];
     let mut so = begun;
     while !so.over && MOST_LINE <= text.len() - so.length {
         so = answered(
@@ -198,7 +196,7 @@ fn ended(text: &mut [u8], so: Piece) -> Piece
 
 // The first line of a file's text, at the front of the text.
 fn begin(file: &[u8], words: &mut [u16], table: &mut [u16], text: &mut [u8]) -> Piece
-    requires { ⌜ (8707 ≤ length (now words)) × (896 ≤ length (now table)) × (mostLine ≤ length (now text)) ⌝ }
+    requires { ⌜ (8707 ≤ length (now words)) × (mostTable ≤ length (now table)) × (mostLine ≤ length (now text)) ⌝ }
     ensures { λ r. ⌜ Begun (now (file .entry)) (now (words .exit)) (now (table .exit)) (now (text .exit)) r ⌝ }
 {
     match packed::unpack(file, words) {
@@ -208,7 +206,7 @@ fn begin(file: &[u8], words: &mut [u16], table: &mut [u16], text: &mut [u8]) -> 
 }
 
 fn of_words(words: &[u16], table: &mut [u16], text: &mut [u8]) -> Piece
-    requires { ⌜ (896 ≤ length (now table)) × (mostLine ≤ length (now text)) ⌝ }
+    requires { ⌜ (mostTable ≤ length (now table)) × (mostLine ≤ length (now text)) ⌝ }
     ensures { λ r. ⌜ OfWords (now (words .entry)) (now (table .exit)) (now (text .exit)) r ⌝ }
 {
     match tables::tables(words, table) {
