@@ -151,13 +151,20 @@ module _ (c : Cost) (g : Grammar) where
   left-treeless : (A : ℕ) → A ∈ halt .todo → ¬ Tree g A
   left-treeless A m = stuck-no-tree g (λ B. B ∈ halt .todo) (no-offer-stuck (halt .todo) (halt .state) (halt .no-offer)) m
 
-  -- DECIDED: whether a nonterminal has a tree
-  pub tree? : (A : ℕ) → A < g .N → Tree g A ⊎ ¬ Tree g A
-  tree? A lt = go (settled-or-left c (g .N) (upto (g .N)) (Least c g) Offer (R g) halt A lt)
+  -- DECIDED: a nonterminal has a least, or it has no tree
+  pub least? : (A : ℕ) → A < g .N → ((x : C) × Least c g A x) ⊎ ¬ Tree g A
+  least? A lt = go (settled-or-left c (g .N) (upto (g .N)) (Least c g) Offer (R g) halt A lt)
     where
-      go : Least c g A (halt .state .figures A) ⊎ A ∈ halt .todo → Tree g A ⊎ ¬ Tree g A
-      go (inl least) = inl (least .tree)
+      go : Least c g A (halt .state .figures A) ⊎ A ∈ halt .todo → ((x : C) × Least c g A x) ⊎ ¬ Tree g A
+      go (inl least) = inl (halt .state .figures A, least)
       go (inr m) = inr (left-treeless A m)
+
+  pub tree? : (A : ℕ) → A < g .N → Tree g A ⊎ ¬ Tree g A
+  tree? A lt = go (least? A lt)
+    where
+      go : ((x : C) × Least c g A x) ⊎ ¬ Tree g A → Tree g A ⊎ ¬ Tree g A
+      go (inl (x, least)) = inl (least .tree)
+      go (inr none) = inr none
 
   -- LEASTS EXIST where all have trees
   pub leasts-exist : AllTrees g → (v : ℕ → C) × Leasts c g v
