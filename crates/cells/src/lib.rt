@@ -7,7 +7,7 @@ ghost use lib.ListN.{getD, set};
 pub fn read(part: &[u16], i: usize) -> u16
     ensures { λ r. ⌜ r ≡ getD (now (part .entry)) i 0 ⌝ }
 {
-    if i < part.len() { part[i] } else { 0 }
+    if part.len() <= i { 0 } else { part[i] }
 }
 
 // Writes v at index i; past the end nothing.
