@@ -31,7 +31,7 @@ test-its = TestSettles.test-its
 pub test-not-its : (words table : List ℕ) {a : TableTest} → Tested words table a → (a ≡ NotIts) ↔ ¬ Are words (Own table)
 test-not-its = TestSettles.test-not-its
 
--- Beside the answer that the table is its own stand the places of the grammar's rules, as `layout::read` has them.
+-- Beside the answer that the table is its own stand the places of the grammar's rules, as `layout::judge::read` notes them.
 pub test-places : (words table : List ℕ) {r : Testing} → TestPromise words table r →
     (n s k : ℕ) → r .answer ≡ Its n s k → r .places ≡ placesOf (layout words)
 test-places = TestSettles.test-places

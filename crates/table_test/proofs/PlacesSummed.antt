@@ -1,6 +1,6 @@
 -- The places of a rule, tested while its sizes are summed, symbol by symbol: what is summed so far and the sizes of the symbols
 -- from i on are the whole size, and every place before i passes. Assumes nothing.
-use mathlib.Core.Path.{_≡_, refl, ap}
+use mathlib.Core.Path.{_≡_, refl, ap, _∙_}
 use mathlib.Core.List.{List, [], _∷_}
 use Prim.Native.Nat.{ℕ, _+_, _*_, _≤_, _<_}
 use native.Mathlib.Omega.{arith}
@@ -31,35 +31,33 @@ module _ {table : List ℕ} {n k t : ℕ} {w : List ℕ} where
   pub summed-none : Summed table n k t w 0 1
   summed-none = record { passed = λ j h. absurd (omega arith); rest = λ g e. refl; some = omega arith; small = omega arith }
 
-  -- the symbol at place i
-  module _ {i : ℕ} (there : i < length w) where
-    pub place-fails : getD w i 0 < n → ¬ PlacePasses table (getD w i 0) k i t → SizePasses table n k t w 0
-    place-fails l fails = one-fails (λ all. fails (all i (getD w i 0) (holds-there w i there) l))
+  -- the symbol s at place i
+  module _ {i s : ℕ} (there : i < length w) (is : s ≡ getD w i 0) where
+    pub place-fails : s < n → ¬ PlacePasses table s k i t → SizePasses table n k t w 0
+    place-fails l fails = one-fails (λ all. fails (all i s (rw is (holds-there w i there)) l))
 
     module _ {sum : ℕ} (so-far : Summed table n k t w i sum) where
-      summed-more : (x : ℕ) → x ≤ 65535 → ((g : Grammar) → n ≡ g .N → symbolSize measure g (leastIn table) (getD w i 0) ≡ x) →
-          (getD w i 0 < n → PlacePasses table (getD w i 0) k i t) → Summed table n k t w (i + 1) (sum + x)
+      summed-more : (x : ℕ) → x ≤ 65535 → ((g : Grammar) → n ≡ g .N → symbolSize measure g (leastIn table) s ≡ x) →
+          (s < n → PlacePasses table s k i t) → Summed table n k t w (i + 1) (sum + x)
       unfolding wordSize
       summed-more x l size here = record {
-        passed = below-more (PassesAt table n k t w) i (so-far .passed) (λ B h. rw (held-there w i B h) at here);
+        passed = below-more (PassesAt table n k t w) i (so-far .passed) (λ B h. rw (is ∙ held-there w i B h) at here);
         rest = λ g e. omega (arith, size g e, so-far .rest g e, ap (wordSize measure g (leastIn table)) next);
         some = omega (arith, so-far .some);
         small = omega (arith, so-far .small);
       }
         where
-          next : drop i w ≡ getD w i 0 ∷ drop (i + 1) w
-          next = rw (add-one, drop-cons w i 0)
+          next : drop i w ≡ s ∷ drop (i + 1) w
+          next = rw (is, add-one, drop-cons w i 0)
 
-      pub summed-nonterminal : (x : ℕ) → x ≡ leastIn table (getD w i 0) → x < 65536 → getD w i 0 < n →
-          PlacePasses table (getD w i 0) k i t → Summed table n k t w (i + 1) (sum + x)
+      pub summed-nonterminal : (x : ℕ) → x ≡ leastIn table s → x < 65536 → s < n → PlacePasses table s k i t →
+          Summed table n k t w (i + 1) (sum + x)
       summed-nonterminal x e h l p =
-          summed-more x (omega arith)
-          (λ g q. omega (arith, symbol-nonterminal measure g (leastIn table) (getD w i 0) (omega arith))) (λ l. p)
+          summed-more x (omega arith) (λ g q. omega (arith, symbol-nonterminal measure g (leastIn table) s (omega arith))) (λ l. p)
 
-      pub summed-terminal : n ≤ getD w i 0 → Summed table n k t w (i + 1) (sum + 1)
+      pub summed-terminal : n ≤ s → Summed table n k t w (i + 1) (sum + 1)
       summed-terminal l =
-          summed-more 1 (omega arith) (λ g e. symbol-terminal measure g (leastIn table) (getD w i 0) (omega arith))
-          (λ h. absurd (omega arith))
+          summed-more 1 (omega arith) (λ g e. symbol-terminal measure g (leastIn table) s (omega arith)) (λ h. absurd (omega arith))
 
   pub summed-all : {i sum : ℕ} → i ≡ length w → Summed table n k t w i sum → SizePasses table n k t w sum
   unfolding wordSize

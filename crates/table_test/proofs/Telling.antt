@@ -1,9 +1,8 @@
 -- What a test's answer says, from the comparison that gave it and from what another answer says. Assumes nothing.
 use Prim.Native.Nat.{ℕ, _≤_, _<_}
-use native.Mathlib.Omega.{arith}
-use mathlib.Core.Path.{_≡_, refl}
+use mathlib.Core.Path.{_≡_, refl, sym}
 use mathlib.Core.Logic.{_↔_}
-use mathlib.Core.Bool.{Bool, true, false, not}
+use mathlib.Core.Bool.{Bool, true, false, false≢true}
 use lib.Dec.{ltb, leb, eqb}
 use borrow.Author.Tests.{ltb-true, ltb-false, leb-true, leb-false, eqb-true, eqb-false}
 use Rattle.table_test.specs.Passes.{Says}
@@ -28,10 +27,10 @@ says-same true e p = e .0 p
 says-same false e n = λ q. n (e .1 q)
 
 -- what was told, after the branch on it
-pub told : {P : Type 0} (b : Bool) → Says b P → not b ≡ false → P
+pub told : {P : Type 0} (b : Bool) → Says b P → b ≡ true → P
 told true p e = p
-told false n e = absurd (let z : _≡_ {A = ℕ} 0 1 = cc in omega arith)
+told false n e = absurd (false≢true e)
 
-pub refuted : {P : Type 0} (b : Bool) → Says b P → not b ≡ true → ¬ P
-refuted true p e = absurd (let z : _≡_ {A = ℕ} 0 1 = cc in omega arith)
+pub refuted : {P : Type 0} (b : Bool) → Says b P → b ≡ false → ¬ P
+refuted true p e = absurd (false≢true (sym e))
 refuted false n e = n

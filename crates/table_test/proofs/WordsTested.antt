@@ -2,8 +2,8 @@
 -- `test` by that. Assumes nothing.
 use Prim.Native.Nat.{ℕ, _≤_}
 use native.Mathlib.Omega.{arith}
-use mathlib.Core.Path.{_≡_, sym, ap, _∙_}
-use mathlib.Core.Bool.{Bool, true, false, false≢true}
+use mathlib.Core.Path.{_≡_, ap, _∙_}
+use mathlib.Core.Bool.{Bool}
 use mathlib.Core.List.{List}
 use Rattle.grammar.specs.Words.{layout, faults, Are}
 use Rattle.grammar.proofs.LayoutExact.{in-bounds, reads-unique}
@@ -42,19 +42,13 @@ module _ {ws places : List ℕ} {n start rules : ℕ} (p : Begun ws places n sta
     pub of-words : (b : Bool) → Says b (Own table (p .grammar)) → Says b (Are ws (Own table))
     of-words b = says-same b (λ own. (p .grammar, p .view .is, own), own-of)
 
-    pub told-its : (b : Bool) → b ≡ true → Says b (Are ws (Own table)) → Tested ws table (Its n start rules)
-    told-its true e z = rw (p .view .nonterminals, p .first, p .view .all-rules) (its (p .view .is) (own-of z))
-    told-its false e z = absurd (false≢true e)
+    pub own-its : Are ws (Own table) → Tested ws table (Its n start rules)
+    own-its z = rw (p .view .nonterminals, p .first, p .view .all-rules) (its (p .view .is) (own-of z))
 
-module _ {ws table : List ℕ} where
-  pub told-not-its : (b : Bool) → b ≡ false → Says b (Are ws (Own table)) → Tested ws table NotIts
-  told-not-its true e z = absurd (false≢true (sym e))
-  told-not-its false e z = not-its z
-
-  -- of words that are no grammar, for which no place is noted
-  pub broken-not-its : {q : ℕ} {places : List ℕ} → layout ws ≡ faults q → places ≡ placesOf (layout ws) →
-      TestPromise ws table (record { answer = NotIts; places = places })
-  broken-not-its e noted = record {
-    tested = not-its (λ (g, is, own). let z : _≡_ {A = ℕ} 0 1 = cc in omega arith);
-    stand = noted ∙ ap placesOf e;
-  }
+-- of words that are no grammar, for which no place is noted
+pub broken-not-its : {ws table places : List ℕ} {q : ℕ} → layout ws ≡ faults q → places ≡ placesOf (layout ws) →
+    TestPromise ws table (record { answer = NotIts; places = places })
+broken-not-its e noted = record {
+  tested = not-its (λ (g, is, own). let z : _≡_ {A = ℕ} 0 1 = cc in omega arith);
+  stand = noted ∙ ap placesOf e;
+}

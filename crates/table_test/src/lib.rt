@@ -36,16 +36,20 @@ pub fn test(words: &[u16], table: &[u16]) -> Testing
     let places = reading.places;
     match answer {
         // Of words that are no grammar all places are 0.
-        LayoutAnswer::Fault { place: _ } => Testing {
-            answer: TableTest::NotIts,
-            places,
-        },
+        LayoutAnswer::Fault { place: _ } => {
+            return Testing {
+                answer: TableTest::NotIts,
+                places,
+            };
+        }
         LayoutAnswer::Grammar {
             nonterminals,
             terminals: _,
             start,
             rules,
-        } => test_grammar(words, places, nonterminals, start, rules, table),
+        } => {
+            return test_grammar(words, places, nonterminals, start, rules, table);
+        }
     }
 }
 
@@ -63,18 +67,17 @@ fn test_grammar(
     ensures { λ r. ⌜ TestPromise (now (words .entry)) (now (table .entry)) r ⌝ }
 {
     if passes::passes(words, &places, n, start, rules, table) {
-        Testing {
+        return Testing {
             answer: TableTest::Its {
                 nonterminals: n,
                 start,
                 rules,
             },
             places,
-        }
-    } else {
-        Testing {
-            answer: TableTest::NotIts,
-            places: [0u16; 256],
-        }
+        };
+    }
+    Testing {
+        answer: TableTest::NotIts,
+        places: [0u16; 256],
     }
 }

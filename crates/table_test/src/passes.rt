@@ -7,7 +7,7 @@ ghost use Prim.Native.Nat.{_+_, _*_, _≤_};
 ghost use lib.ListN.{length};
 ghost use Rattle.grammar.specs.Words.{Grammar, Are};
 ghost use Rattle.grammar.specs.Certificates.{Holds};
-ghost use Rattle.entries.specs.Table.{entry, Own};
+ghost use Rattle.entries.specs.Table.{Own};
 ghost use Rattle.layout.specs.View.{View, Begun};
 ghost use Rattle.table_test.specs.Passes.{Says, Answer, PlacePasses, SizePasses, LeftPasses, RuleAnswer, RulesPass};
 ghost use Rattle.table_test.specs.Passes.{ComesTo, ChosenPasses, ContextPasses, StartPasses, ChoicePasses, ChoicesPass};
@@ -42,12 +42,13 @@ fn size_passes(symbols: &[u16], n: u16, number: u16, total: usize, table: &[u16]
     let mut sum = 1;
     let mut i = 0;
     while i < symbols.len() {
-        let s = symbols[i];
+        let s = read(symbols, i);
         if s < n {
-            if !place_passes(s, number, i, total, table) {
+            if place_passes(s, number, i, total, table) {
+                sum += entries::least(table, s);
+            } else {
                 return 0;
             }
-            sum += entries::least(table, s);
         } else {
             sum += 1;
         }
@@ -91,7 +92,7 @@ fn rules_pass(words: &[u16], places: &[u16], n: u16, rules: u16, table: &[u16]) 
 {
     let mut r = 0;
     while r < rules {
-        if !rule_passes(
+        if rule_passes(
             words,
             rules::index(places, wide(r)),
             n,
@@ -99,9 +100,10 @@ fn rules_pass(words: &[u16], places: &[u16], n: u16, rules: u16, table: &[u16]) 
             entries::total(table, n, r),
             table,
         ) {
+            r += 1;
+        } else {
             return false;
         }
-        r += 1;
     }
     true
 }
@@ -134,7 +136,7 @@ fn holds(symbols: &[u16], place: usize, a: u16) -> bool
     if symbols.len() <= place {
         return false;
     }
-    symbols[place] == a
+    read(symbols, place) == a
 }
 
 // Whether the context rule of a has a at the context place, and its total is what a's least and context come to.
@@ -146,10 +148,10 @@ fn context_passes(words: &[u16], places: &[u16], n: u16, rules: u16, a: u16, tab
         return false;
     }
     let symbols = rules::right(words, rules::index(places, wide(by)));
-    if !holds(symbols, wide(entries::place(table, a)), a) {
-        return false;
+    if holds(symbols, wide(entries::place(table, a)), a) {
+        return comes_to(table, n, by, a);
     }
-    comes_to(table, n, by, a)
+    false
 }
 
 // Whether the context of a, which is the start, is 0, with no rule and no place.
@@ -178,14 +180,13 @@ fn choice_passes(
     ensures { λ r. ⌜ Answer (now (words .entry)) (now (places .entry)) n rules
         (λ g. ChoicePasses g start (now (table .entry)) a) r ⌝ }
 {
-    if !chosen_passes(words, places, n, rules, a, table) {
-        return false;
+    if chosen_passes(words, places, n, rules, a, table) {
+        if a == start {
+            return start_passes(a, table);
+        }
+        return context_passes(words, places, n, rules, a, table);
     }
-    if a == start {
-        start_passes(a, table)
-    } else {
-        context_passes(words, places, n, rules, a, table)
-    }
+    false
 }
 
 // Whether the choices of every nonterminal are right.
@@ -202,10 +203,11 @@ fn choices_pass(
 {
     let mut a = 0;
     while a < n {
-        if !choice_passes(words, places, n, start, rules, a, table) {
+        if choice_passes(words, places, n, start, rules, a, table) {
+            a += 1;
+        } else {
             return false;
         }
-        a += 1;
     }
     true
 }
@@ -218,10 +220,10 @@ fn all_pass(words: &[u16], places: &[u16], n: u16, start: u16, rules: u16, table
     if table.len() < entries::length(n, rules) {
         return false;
     }
-    if !choices_pass(words, places, n, start, rules, table) {
-        return false;
+    if choices_pass(words, places, n, start, rules, table) {
+        return rules_pass(words, places, n, rules, table);
     }
-    rules_pass(words, places, n, rules, table)
+    false
 }
 
 // The same, by the numbers and the places that the judge gives of words.

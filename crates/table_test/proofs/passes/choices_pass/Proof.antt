@@ -21,19 +21,19 @@ abbrev μ-loop : tie.MeasureT-loop
 loop-holds : tie.Need-loop-holds Inv-loop μ-loop
 loop-holds c = (omega arith, λ k h. absurd (omega arith))
 
-returns : tie.Need-returns Inv-loop μ-loop
-returns c g view p =
-    let tested = c .before .choice-passes in
-    let here = p (c .before .before .before .loop .a) (omega (arith, view .nonterminals)) in
-    refuted (tested .result) (tested .ensures g view) (c .if1 .taken) here
-
 loop-again : tie.Need-loop-again Inv-loop μ-loop
 loop-again c =
     let tested = c .before .choice-passes in (
       omega arith,
       below-more _ _ (c .before .before .before .loop .inv .1) (λ g view.
-          told (tested .result) (tested .ensures g view) (c .if1 .left)),
+          told (tested .result) (tested .ensures g view) (c .if1 .taken)),
     )
+
+returns : tie.Need-returns Inv-loop μ-loop
+returns c g view p =
+    let tested = c .before .choice-passes in
+    let here = p (c .before .before .before .loop .a) (omega (arith, view .nonterminals)) in
+    refuted (tested .result) (tested .ensures g view) (c .if1 .left) here
 
 returns-2 : tie.Need-returns-2 Inv-loop μ-loop
 returns-2 c g view A lt = c .before .loop .inv .1 A (omega (arith, view .nonterminals)) g view
@@ -41,5 +41,5 @@ returns-2 c g view A lt = c .before .loop .inv .1 A (omega (arith, view .nonterm
 pub choices-pass-spec : {M : Type 1} → statement M
 choices-pass-spec =
     tie.close
-    (tie.spec Inv-loop μ-loop loop-holds (λ c κs. search needs) returns (λ c. search needs) (λ c. search needs) loop-again
+    (tie.spec Inv-loop μ-loop loop-holds (λ c κs. search needs) (λ c. search needs) (λ c. search needs) loop-again returns
     returns-2)

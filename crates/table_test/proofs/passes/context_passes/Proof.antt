@@ -13,20 +13,7 @@ returns : tie.Need-returns
 returns c g view p = omega (arith, below-rules view (p .rule), c .before .rule .ensures)
 
 returns-2 : tie.Need-returns-2
-returns-2 c g view p =
-    let a = c .before .before .before .before .before .before .before .before .before .before .before .before .args in
-    let rule = c .before .before .before .before .before .before .before .before .rule .ensures in
-    let index = c .before .before .before .before .before in
-    let found = index-of (a .places .now) (index .index .ensures) (index .before .wide .ensures) in
-    let symbols = c .before .before .before .before .right in
-    let read = symbols .ensures .0 ∙ ap (rightAt (a .words .now)) found in
-    let place = c .before .before .wide2 .ensures ∙ c .before .before .before .place .ensures in
-    let held = c .before .holds in
-    refuted (held .result) (held .ensures) (c .if2 .taken)
-    (context-holds view (a .table .now) (a .a) rule place (symbols .result .now) read p)
-
-returns-3 : tie.Need-returns-3
-returns-3 c g view =
+returns-2 c g view =
     let a = c .before .before .before .before .before .before .before .before .before .before .before .before .before .args in
     let rule = c .before .before .before .before .before .before .before .before .before .rule .ensures in
     let index = c .before .before .before .before .before .before in
@@ -37,11 +24,24 @@ returns-3 c g view =
     let held = c .before .before .holds in
     says-same (c .comes-to .result)
     (context-same view (a .table .now) (a .a) rule place (symbols .result .now) read (omega arith)
-    (told (held .result) (held .ensures) (c .before .if2 .left)))
+    (told (held .result) (held .ensures) (c .before .if2 .taken)))
     (c .comes-to .ensures)
+
+returns-3 : tie.Need-returns-3
+returns-3 c g view p =
+    let a = c .before .before .before .before .before .before .before .before .before .before .before .before .args in
+    let rule = c .before .before .before .before .before .before .before .before .rule .ensures in
+    let index = c .before .before .before .before .before in
+    let found = index-of (a .places .now) (index .index .ensures) (index .before .wide .ensures) in
+    let symbols = c .before .before .before .before .right in
+    let read = symbols .ensures .0 ∙ ap (rightAt (a .words .now)) found in
+    let place = c .before .before .wide2 .ensures ∙ c .before .before .before .place .ensures in
+    let held = c .before .holds in
+    refuted (held .result) (held .ensures) (c .if2 .left)
+    (context-holds view (a .table .now) (a .a) rule place (symbols .result .now) read p)
 
 pub context-passes-spec : {M : Type 1} → statement M
 context-passes-spec =
     tie.close
     (tie.spec (λ c κs. search needs) returns (λ c κs. search needs) (λ c κs. search needs) (λ c κs. search needs)
-    (λ c κs. search needs) (λ c κs. search needs) (λ c κs. search needs) returns-2 (λ c κs. search needs) returns-3)
+    (λ c κs. search needs) (λ c κs. search needs) (λ c κs. search needs) (λ c κs. search needs) returns-2 returns-3)

@@ -1,6 +1,6 @@
 -- `table_test::passes::holds` meets its contract: nothing is held past the end. Assumes nothing.
 use native.Mathlib.Omega.{arith}
-use lib.ListN.{getD}
+use mathlib.Core.Path.{sym, _∙_}
 use Rattle.grammar.specs.Certificates.{Holds}
 use Rattle.grammar.proofs.ContextsExist.{holds-below}
 use Rattle.table_test.proofs.Telling.{says-eq}
@@ -10,14 +10,15 @@ use Rattle.table_test.proofs.passes.holds.Statement.{statement}
 use Rattle.table_test.proofs.passes.holds.Tie as tie
 
 returns : tie.Need-returns
-returns c h = let a = c .before .args in omega (arith, holds-below (a .symbols .now) (a .place) (a .a) h)
+returns c h = let a = c .before .before .args in omega (arith, holds-below (a .symbols .now) (a .place) (a .a) h)
 
 returns-2 : tie.Need-returns-2
 returns-2 c =
-    let a = c .before .before .args in
+    let a = c .before .before .before .args in
     let w = a .symbols .now in
-    says-eq {P = Holds w (a .place) (a .a)} (getD w (a .place) 0) (a .a)
-    (λ e. rw e at (holds-there w (a .place) (omega arith))) (λ d h. d (held-there w (a .place) (a .a) h))
+    let read = c .read .ensures in
+    says-eq {P = Holds w (a .place) (a .a)} (c .read .result) (a .a)
+    (λ e. rw (sym read ∙ e) at (holds-there w (a .place) (omega arith))) (λ d h. d (read ∙ held-there w (a .place) (a .a) h))
 
 pub holds-spec : {M : Type 1} → statement M
-holds-spec = tie.close (tie.spec returns (λ c. search needs) (λ c. search needs) returns-2)
+holds-spec = tie.close (tie.spec returns (λ c κs. search needs) returns-2)

@@ -26,18 +26,6 @@ abbrev μ-loop : tie.MeasureT-loop
 loop-holds : tie.Need-loop-holds Inv-loop μ-loop
 loop-holds c = (omega arith, λ k h. absurd (omega arith))
 
-returns : tie.Need-returns Inv-loop μ-loop
-returns c g view p =
-    let a = c .before .before .before .before .before .before .before .before .before .before .args in
-    let r = c .before .before .before .before .before .before .loop .r in
-    let index = c .before .before .before in
-    let at = index-of (a .places .now) (index .index .ensures) (index .before .wide .ensures) in
-    let tested = c .before .rule-passes in
-    refuted (tested .result)
-    (rule-answered view (a .table .now) r _ (c .before .before .total .ensures .0) (omega arith) (tested .result)
-    (rw at at (tested .ensures g (view .nonterminals))))
-    (c .if1 .taken) (p r)
-
 loop-again : tie.Need-loop-again Inv-loop μ-loop
 loop-again c =
     let a = c .before .before .before .before .before .before .before .before .before .before .args in
@@ -50,8 +38,20 @@ loop-again c =
           told (tested .result)
           (rule-answered view (a .table .now) r _ (c .before .before .total .ensures .0) (omega arith) (tested .result)
           (rw at at (tested .ensures g (view .nonterminals))))
-          (c .if1 .left)),
+          (c .if1 .taken)),
     )
+
+returns : tie.Need-returns Inv-loop μ-loop
+returns c g view p =
+    let a = c .before .before .before .before .before .before .before .before .before .before .args in
+    let r = c .before .before .before .before .before .before .loop .r in
+    let index = c .before .before .before in
+    let at = index-of (a .places .now) (index .index .ensures) (index .before .wide .ensures) in
+    let tested = c .before .rule-passes in
+    refuted (tested .result)
+    (rule-answered view (a .table .now) r _ (c .before .before .total .ensures .0) (omega arith) (tested .result)
+    (rw at at (tested .ensures g (view .nonterminals))))
+    (c .if1 .left) (p r)
 
 returns-2 : tie.Need-returns-2 Inv-loop μ-loop
 returns-2 c g view k A w at = c .before .loop .inv .1 k (omega (arith, below-rules view at)) g view A w at
@@ -60,4 +60,4 @@ pub rules-pass-spec : {M : Type 1} → statement M
 rules-pass-spec =
     tie.close
     (tie.spec Inv-loop μ-loop loop-holds (λ c κs. search needs) (λ c κs. search needs) (λ c κs. search needs) (λ c κs. search needs)
-    returns (λ c. search needs) (λ c. search needs) loop-again returns-2)
+    (λ c. search needs) (λ c. search needs) loop-again returns returns-2)

@@ -19,28 +19,29 @@ abbrev μ-loop : tie.MeasureT-loop
 loop-holds : tie.Need-loop-holds Inv-loop μ-loop
 loop-holds c = (omega arith, summed-none)
 
+add-sum : tie.Need-add-sum Inv-loop μ-loop
+add-sum c = omega (arith, c .before .before .before .before .before .before .loop .inv .1 .small, c .least .ensures .1)
+
 returns : tie.Need-returns Inv-loop μ-loop
 returns c =
     let p = c .before .place-passes in
-    let fails = refuted (p .result) (p .ensures) (c .if2 .taken) in
-    (place-fails (omega arith) (omega arith) fails, omega arith)
-
-add-sum : tie.Need-add-sum Inv-loop μ-loop
-add-sum c = omega (arith, c .before .before .before .before .before .before .loop .inv .1 .small, c .least .ensures .1)
+    let fails = refuted (p .result) (p .ensures) (c .if2 .left) in
+    (place-fails (omega arith) (c .before .before .before .read .ensures) (omega arith) fails, omega arith)
 
 add-sum-2 : tie.Need-add-sum-2 Inv-loop μ-loop
 add-sum-2 c = omega (arith, c .before .before .before .loop .inv .1 .small)
 
 loop-again : tie.Need-loop-again Inv-loop μ-loop
 loop-again c =
-    let z = c .before .before .before .loop .inv .1 in (
+    let z = c .before .before .before .loop .inv .1 in
+    let s = c .before .read .ensures in (
       omega arith,
       ⊎-elim
           (λ (if1, p, if2, least, sum).
           rw sum
-          (summed-nonterminal (omega arith) z (least .result) (least .ensures .0) (least .ensures .1) (if1 .taken)
-          (told (p .result) (p .ensures) (if2 .left))))
-          (λ (if1, sum). rw sum (summed-terminal (omega arith) z (if1 .left)))
+          (summed-nonterminal (omega arith) s z (least .result) (least .ensures .0) (least .ensures .1) (if1 .taken)
+          (told (p .result) (p .ensures) (if2 .taken))))
+          (λ (if1, sum). rw sum (summed-terminal (omega arith) s z (if1 .left)))
           (c .if1 .came),
     )
 
@@ -52,5 +53,5 @@ returns-2 c =
 pub size-passes-spec : {M : Type 1} → statement M
 size-passes-spec =
     tie.close
-    (tie.spec Inv-loop μ-loop loop-holds (λ c. search needs) (λ c. search needs) (λ c κs. search needs) returns
-    (λ c κs. search needs) add-sum add-sum-2 (λ c. search needs) (λ c. search needs) loop-again returns-2)
+    (tie.spec Inv-loop μ-loop loop-holds (λ c κs. search needs) (λ c κs. search needs) (λ c κs. search needs) add-sum returns
+    add-sum-2 (λ c. search needs) (λ c. search needs) loop-again returns-2)
