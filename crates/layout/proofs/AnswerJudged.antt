@@ -7,7 +7,7 @@ use lib.ListN.{getD, drop}
 use Rattle.grammar.specs.Words.{Grammar, Rule, Judged, reads, faults, with-head, lefts, layout}
 use Rattle.layout.specs.Judge.{answerOf, noPlaces, placesOf}
 use Rattle.answers.specs.Buffers.{over}
-use Rattle.layout.specs.JudgeParts.{numberOf, Head, Headed, Tabled, Noted}
+use Rattle.layout.specs.JudgeParts.{numberOf, Head, Headed, RulesNumbered, PlacesTold}
 use Rattle.layout.specs.declared.judge.LayoutAnswer.{LayoutAnswer}
 use Rattle.layout.specs.declared.judge.LayoutAnswer.the-variants as answer
 use Rattle.layout.specs.declared.judge.Part.{Part}
@@ -28,18 +28,18 @@ module _ (ws : List ℕ) (at N T S : ℕ) (h : Head ws at) (n : N ≡ getD ws 0 
   after-head x e =
       rw (h .judged, ← n, ← t, ← s) (ap (numbered N T S) (sym e) ∙ numbered-whole N T S (lefts (drop at ws) at 256 N T))
 
-  pub rules-counted : (r : Part) (k : ℕ) → Tabled ws N T at r → r ≡ part.Fit k → answer.Grammar N T S k ≡ answerOf (layout ws)
+  pub rules-counted : (r : Part) (k : ℕ) → RulesNumbered ws N T at r → r ≡ part.Fit k → answer.Grammar N T S k ≡ answerOf (layout ws)
   rules-counted r k h e = after-head (reads k) (rw e at h)
 
-  pub rules-faulted : (r : Part) (p : ℕ) → Tabled ws N T at r → r ≡ part.Fault p → answer.Fault p ≡ answerOf (layout ws)
+  pub rules-faulted : (r : Part) (p : ℕ) → RulesNumbered ws N T at r → r ≡ part.Fault p → answer.Fault p ≡ answerOf (layout ws)
   rules-faulted r p h e = after-head (faults p) (rw e at h)
 
 -- and where the rules stand is noted, in an array of 0
-pub rules-noted : (ws before after : List ℕ) (N T S : ℕ) (r : Part) (k : ℕ) → Noted ws before r after → before ≡ noPlaces →
+pub rules-noted : (ws before after : List ℕ) (N T S : ℕ) (r : Part) (k : ℕ) → PlacesTold ws before r after → before ≡ noPlaces →
     r ≡ part.Fit k → answer.Grammar N T S k ≡ answerOf (layout ws) → after ≡ placesOf (layout ws)
 rules-noted ws before after N T S r k h clear e a = go (layout ws) refl a
   where
-    found : Noted ws before (part.Fit k) after
+    found : PlacesTold ws before (part.Fit k) after
     found = rw e at h
 
     go : (j : Judged Grammar) → layout ws ≡ j → answer.Grammar N T S k ≡ answerOf j → after ≡ placesOf j

@@ -74,11 +74,11 @@ RuleEnds ws at (Fit q) = (q ≡ at + 2 + countAt ws at) × (q ≤ length ws) × 
 RuleEnds ws at (Fault p) = Unit {0}
 
 -- the rules from an index on are n
-abbrev pub Tabled : List ℕ → ℕ → ℕ → ℕ → Part → Type 0
-Tabled ws N T at (Fit n) = numberOf (lefts (drop at ws) at 256 N T) ≡ reads n
-Tabled ws N T at (Fault p) = numberOf (lefts (drop at ws) at 256 N T) ≡ faults p
+abbrev pub RulesNumbered : List ℕ → ℕ → ℕ → ℕ → Part → Type 0
+RulesNumbered ws N T at (Fit n) = numberOf (lefts (drop at ws) at 256 N T) ≡ reads n
+RulesNumbered ws N T at (Fault p) = numberOf (lefts (drop at ws) at 256 N T) ≡ faults p
 
 -- where each stands is noted
-abbrev pub Noted : List ℕ → List ℕ → Part → List ℕ → Type 0
-Noted ws before (Fit n) after = after ≡ over (placesFrom 256 ws walkStart) before
-Noted ws before (Fault p) after = Unit {0}
+abbrev pub PlacesTold : List ℕ → List ℕ → Part → List ℕ → Type 0
+PlacesTold ws before (Fit n) after = after ≡ over (placesFrom 256 ws walkStart) before
+PlacesTold ws before (Fault p) after = Unit {0}

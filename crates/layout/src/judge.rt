@@ -5,7 +5,7 @@ ghost use Prim.Native.Nat.{_≤_, _<_};
 ghost use lib.ListN.{length};
 ghost use Rattle.grammar.specs.Words.{layout};
 ghost use Rattle.layout.specs.Judge.{answerOf, noPlaces, placesOf};
-ghost use Rattle.layout.specs.JudgeParts.{FirstUnfit, Head, Headed, Symbols, SymbolsEnd, Ruled, RuleEnds, Tabled, Noted};
+ghost use Rattle.layout.specs.JudgeParts.{FirstUnfit, Head, Headed, Symbols, SymbolsEnd, Ruled, RuleEnds, RulesNumbered, PlacesTold};
 use crate::walk::FIRST_RULE;
 use crate::walk::MOST_RULES;
 use crate::words::word;
@@ -138,8 +138,8 @@ fn judge_rules(
 ) -> Part
     requires { ⌜ (nonterminals ≤ 128) × (terminals ≤ 1024) ⌝ }
     requires { ⌜ (first ≡ 3) × (256 ≤ length (now places)) ⌝ }
-    ensures { λ r. ⌜ Tabled (now (words .entry)) nonterminals terminals first r ⌝ }
-    ensures { λ r. ⌜ Noted (now (words .entry)) (now (places .entry)) r (now (places .exit)) ⌝ }
+    ensures { λ r. ⌜ RulesNumbered (now (words .entry)) nonterminals terminals first r ⌝ }
+    ensures { λ r. ⌜ PlacesTold (now (words .entry)) (now (places .entry)) r (now (places .exit)) ⌝ }
 {
     let mut at = first;
     let mut rules = 0;

@@ -6,7 +6,7 @@ use mathlib.Core.List.{List, [], _∷_, _++_}
 use lib.ListN.{length, take, drop, getD}
 use Rattle.lines.specs.Digits.{digit, decimal, spelled}
 use Rattle.lines.specs.Lines.{suiteLine, sentenceLine, endLine, refusedLine, Words, mostLine}
-use Rattle.lines.specs.Room.{Written}
+use Rattle.lines.specs.Room.{LineWritten}
 use Rattle.lines.specs.Samples.{samples, Right}
 use Rattle.lines.proofs.DigitsOfNumbers as Digits
 use Rattle.lines.proofs.WholeLines as Whole
@@ -15,21 +15,21 @@ use Rattle.lines.proofs.Settles as Settles
 use Rattle.lines.proofs.Samples as Samples
 
 -- SETTLED. Any two outcomes that a promise allows for the same input coincide: the index answered, and all of the lent buffer.
-pub suite-settles : (N T R : ℕ) {buffer a b : List ℕ} {at p q : ℕ} → Written (suiteLine N T R) buffer at a p →
-    Written (suiteLine N T R) buffer at b q → (p ≡ q) × (a ≡ b)
+pub suite-settles : (N T R : ℕ) {buffer a b : List ℕ} {at p q : ℕ} → LineWritten (suiteLine N T R) buffer at a p →
+    LineWritten (suiteLine N T R) buffer at b q → (p ≡ q) × (a ≡ b)
 suite-settles = Settles.suite-settles
 
 pub sentence-settles : (target : ℕ) (tokens rules : List ℕ) {buffer a b : List ℕ} {at p q : ℕ} →
-    Written (sentenceLine target tokens rules) buffer at a p → Written (sentenceLine target tokens rules) buffer at b q →
+    LineWritten (sentenceLine target tokens rules) buffer at a p → LineWritten (sentenceLine target tokens rules) buffer at b q →
     (p ≡ q) × (a ≡ b)
 sentence-settles = Settles.sentence-settles
 
-pub end-settles : (count : ℕ) {buffer a b : List ℕ} {at p q : ℕ} → Written (endLine count) buffer at a p →
-    Written (endLine count) buffer at b q → (p ≡ q) × (a ≡ b)
+pub end-settles : (count : ℕ) {buffer a b : List ℕ} {at p q : ℕ} → LineWritten (endLine count) buffer at a p →
+    LineWritten (endLine count) buffer at b q → (p ≡ q) × (a ≡ b)
 end-settles = Settles.end-settles
 
-pub refused-settles : (number place : ℕ) {buffer a b : List ℕ} {at p q : ℕ} → Written (refusedLine number place) buffer at a p →
-    Written (refusedLine number place) buffer at b q → (p ≡ q) × (a ≡ b)
+pub refused-settles : (number place : ℕ) {buffer a b : List ℕ} {at p q : ℕ} → LineWritten (refusedLine number place) buffer at a p →
+    LineWritten (refusedLine number place) buffer at b q → (p ≡ q) × (a ≡ b)
 refused-settles = Settles.refused-settles
 
 -- DECIMAL. Below 10 a number is its digit; from 10 on it is the digits of a tenth of it, and its last digit.
@@ -48,20 +48,20 @@ decimal-no-zero = Digits.decimal-no-zero
 
 -- WHOLE. Where there is room the buffer holds the whole line and the index is past it; an index below the buffer's length says
 -- that there was room; a line written from 0 on is the buffer's front; and the index stays within the buffer.
-pub with-room : {text buffer after : List ℕ} {at past : ℕ} → Written text buffer at after past →
+pub with-room : {text buffer after : List ℕ} {at past : ℕ} → LineWritten text buffer at after past →
     at + length text ≤ length buffer →
     (past ≡ at + length text) × (after ≡ take at buffer ++ text ++ drop (at + length text) buffer)
 with-room = Whole.with-room
 
-pub room-told : {text buffer after : List ℕ} {at past : ℕ} → Written text buffer at after past → past < length buffer →
+pub room-told : {text buffer after : List ℕ} {at past : ℕ} → LineWritten text buffer at after past → past < length buffer →
     at + length text ≤ length buffer
 room-told = Whole.room-told
 
-pub front : {text buffer after : List ℕ} {past : ℕ} → Written text buffer 0 after past → length text ≤ length buffer →
+pub front : {text buffer after : List ℕ} {past : ℕ} → LineWritten text buffer 0 after past → length text ≤ length buffer →
     take past after ≡ text
 front = Whole.front
 
-pub within : {text buffer after : List ℕ} {at past : ℕ} → Written text buffer at after past → at ≤ length buffer →
+pub within : {text buffer after : List ℕ} {at past : ℕ} → LineWritten text buffer at after past → at ≤ length buffer →
     past ≤ length after
 within = Whole.within
 

@@ -7,7 +7,7 @@ use lib.ListN.{length, take, getD}
 use lib.Seq.{take-suc}
 use Rattle.lines.specs.Digits.{decimal}
 use Rattle.lines.specs.Lines.{space, spaced}
-use Rattle.lines.specs.Room.{Written}
+use Rattle.lines.specs.Room.{LineWritten}
 use Rattle.lines.proofs.WrittenInRoom.{and-then}
 
 pub spaced-append : (u v : List ℕ) → spaced (u ++ v) ≡ spaced u ++ spaced v
@@ -20,7 +20,7 @@ unfolding spaced
 spaced-one n = append-nil (space ∷ decimal n)
 
 -- a list's first i numbers, and then the next
-pub next-number : (l : List ℕ) {a b c : List ℕ} {p q r : ℕ} (i : ℕ) → i < length l → Written (spaced (take i l)) a p b q →
-    Written (space ∷ decimal (getD l i 0)) b q c r → Written (spaced (take (i + 1) l)) a p c r
+pub next-number : (l : List ℕ) {a b c : List ℕ} {p q r : ℕ} (i : ℕ) → i < length l → LineWritten (spaced (take i l)) a p b q →
+    LineWritten (space ∷ decimal (getD l i 0)) b q c r → LineWritten (spaced (take (i + 1) l)) a p c r
 next-number l i h w v =
     rw (add-one, take-suc l i 0, spaced-append (take i l) (getD l i 0 ∷ []), spaced-one (getD l i 0)) (and-then w v)

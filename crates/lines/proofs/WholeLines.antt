@@ -7,10 +7,10 @@ use mathlib.Core.Path.{_≡_, refl, ap, _∙_}
 use mathlib.Core.List.{List, _++_}
 use lib.ListN.{length, take, drop}
 use lib.Seq.{sets-eq, take-append-seam}
-use Rattle.lines.specs.Room.{Written}
+use Rattle.lines.specs.Room.{LineWritten}
 use Rattle.lines.proofs.WrittenInRoom.{kept}
 
-module _ {text buffer after : List ℕ} {at past : ℕ} (w : Written text buffer at after past) where
+module _ {text buffer after : List ℕ} {at past : ℕ} (w : LineWritten text buffer at after past) where
   -- WHOLE: the whole text, in its place, and nothing else has changed
   pub with-room : at + length text ≤ length buffer →
       (past ≡ at + length text) × (after ≡ take at buffer ++ text ++ drop (at + length text) buffer)
@@ -25,7 +25,7 @@ module _ {text buffer after : List ℕ} {at past : ℕ} (w : Written text buffer
   within h = let l = kept w in omega (arith, w .index)
 
 -- WHOLE: the front of the buffer is the text
-pub front : {text buffer after : List ℕ} {past : ℕ} → Written text buffer 0 after past → length text ≤ length buffer →
+pub front : {text buffer after : List ℕ} {past : ℕ} → LineWritten text buffer 0 after past → length text ≤ length buffer →
     take past after ≡ text
 front {text} {buffer} w h =
     let all = with-room w (omega arith) in

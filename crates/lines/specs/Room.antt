@@ -6,7 +6,7 @@ use mathlib.Core.List.{List}
 use lib.ListN.{length}
 use lib.Seq.{sets}
 
-pub record Written (text buffer : List ℕ) (at : ℕ) (after : List ℕ) (past : ℕ) : Type 0 where
+pub record LineWritten (text buffer : List ℕ) (at : ℕ) (after : List ℕ) (past : ℕ) : Type 0 where
   -- the octets stand at the indexes from `at` on, one after the other; past the buffer's end a store changes nothing
   pub holds : after ≡ sets buffer at text
   -- past as many octets as there was room for: below the buffer's length this is past the whole text (`room-told`)

@@ -7,7 +7,7 @@ ghost use Prim.Native.Nat.{_<_};
 ghost use lib.ListN.{length};
 ghost use Rattle.lines.specs.Digits.{digit, decimal};
 ghost use Rattle.lines.specs.Lines.{space, spaced, suiteLine, sentenceLine, endLine, refusedLine};
-ghost use Rattle.lines.specs.Room.{Written};
+ghost use Rattle.lines.specs.Room.{LineWritten};
 
 const SPACE: u8 = 32;
 
@@ -17,7 +17,7 @@ const ZERO: u8 = 48;
 
 // Writes one octet at an index; past the end nothing.
 fn put(octet: u8, text: &mut [u8], at: usize) -> usize
-    ensures { λ r. ⌜ Written (octet ∷ []) (now (text .entry)) at (now (text .exit)) r ⌝ }
+    ensures { λ r. ⌜ LineWritten (octet ∷ []) (now (text .entry)) at (now (text .exit)) r ⌝ }
 {
     if at < text.len() {
         text[at] = octet;
@@ -29,7 +29,7 @@ fn put(octet: u8, text: &mut [u8], at: usize) -> usize
 
 // Writes octets as they are.
 fn word(octets: &[u8], text: &mut [u8], at: usize) -> usize
-    ensures { λ r. ⌜ Written (now (octets .entry)) (now (text .entry)) at (now (text .exit)) r ⌝ }
+    ensures { λ r. ⌜ LineWritten (now (octets .entry)) (now (text .entry)) at (now (text .exit)) r ⌝ }
 {
     let mut past = at;
     let mut i = 0;
@@ -49,7 +49,7 @@ fn glyph(d: usize) -> u8
 
 // Writes the digits of n: those before the last one first.
 fn digits(n: usize, text: &mut [u8], at: usize) -> usize
-    ensures { λ r. ⌜ Written (decimal n) (now (text .entry)) at (now (text .exit)) r ⌝ }
+    ensures { λ r. ⌜ LineWritten (decimal n) (now (text .entry)) at (now (text .exit)) r ⌝ }
 {
     if n < 10 {
         return put(glyph(n), text, at);
@@ -60,7 +60,7 @@ fn digits(n: usize, text: &mut [u8], at: usize) -> usize
 
 // Writes a space and a number.
 fn number(n: usize, text: &mut [u8], at: usize) -> usize
-    ensures { λ r. ⌜ Written (space ∷ decimal n) (now (text .entry)) at (now (text .exit)) r ⌝ }
+    ensures { λ r. ⌜ LineWritten (space ∷ decimal n) (now (text .entry)) at (now (text .exit)) r ⌝ }
 {
     let past = put(SPACE, text, at);
     digits(n, text, past)
@@ -74,7 +74,7 @@ fn wide(n: u16) -> usize
 
 // Writes a space and a number for each of the list.
 fn numbers(list: &[u16], text: &mut [u8], at: usize) -> usize
-    ensures { λ r. ⌜ Written (spaced (now (list .entry))) (now (text .entry)) at (now (text .exit)) r ⌝ }
+    ensures { λ r. ⌜ LineWritten (spaced (now (list .entry))) (now (text .entry)) at (now (text .exit)) r ⌝ }
 {
     let mut past = at;
     let mut i = 0;
@@ -87,7 +87,7 @@ fn numbers(list: &[u16], text: &mut [u8], at: usize) -> usize
 
 // Writes how many the list has, and then them.
 fn counted(list: &[u16], text: &mut [u8], at: usize) -> usize
-    ensures { λ r. ⌜ Written (spaced (length (now (list .entry)) ∷ now (list .entry))) (now (text .entry)) at
+    ensures { λ r. ⌜ LineWritten (spaced (length (now (list .entry)) ∷ now (list .entry))) (now (text .entry)) at
         (now (text .exit)) r ⌝ }
 {
     let past = number(list.len(), text, at);
@@ -102,7 +102,7 @@ pub fn suite(
     text: &mut [u8],
     at: usize,
 ) -> usize
-    ensures { λ r. ⌜ Written (suiteLine nonterminals terminals rules) (now (text .entry)) at (now (text .exit)) r ⌝ }
+    ensures { λ r. ⌜ LineWritten (suiteLine nonterminals terminals rules) (now (text .entry)) at (now (text .exit)) r ⌝ }
 {
     let worded = word(b"suite", text, at);
     let first = number(nonterminals, text, worded);
@@ -113,7 +113,7 @@ pub fn suite(
 
 // A sentence's line: the target, the tokens with their count, the rule numbers with theirs.
 pub fn sentence(target: usize, tokens: &[u16], rules: &[u16], text: &mut [u8], at: usize) -> usize
-    ensures { λ r. ⌜ Written (sentenceLine target (now (tokens .entry)) (now (rules .entry))) (now (text .entry)) at
+    ensures { λ r. ⌜ LineWritten (sentenceLine target (now (tokens .entry)) (now (rules .entry))) (now (text .entry)) at
         (now (text .exit)) r ⌝ }
 {
     let first = digits(target, text, at);
@@ -124,7 +124,7 @@ pub fn sentence(target: usize, tokens: &[u16], rules: &[u16], text: &mut [u8], a
 
 // The last line: how many sentences there were.
 pub fn end(count: usize, text: &mut [u8], at: usize) -> usize
-    ensures { λ r. ⌜ Written (endLine count) (now (text .entry)) at (now (text .exit)) r ⌝ }
+    ensures { λ r. ⌜ LineWritten (endLine count) (now (text .entry)) at (now (text .exit)) r ⌝ }
 {
     let worded = word(b"end", text, at);
     let first = number(count, text, worded);
@@ -133,7 +133,7 @@ pub fn end(count: usize, text: &mut [u8], at: usize) -> usize
 
 // The one line of a refused file.
 pub fn refused(refusal: u16, place: usize, text: &mut [u8], at: usize) -> usize
-    ensures { λ r. ⌜ Written (refusedLine refusal place) (now (text .entry)) at (now (text .exit)) r ⌝ }
+    ensures { λ r. ⌜ LineWritten (refusedLine refusal place) (now (text .entry)) at (now (text .exit)) r ⌝ }
 {
     let worded = word(b"refused", text, at);
     let first = number(wide(refusal), text, worded);

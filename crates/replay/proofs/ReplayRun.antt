@@ -20,7 +20,7 @@ use Rattle.layout.specs.View.{View}
 use Rattle.layout.proofs.RulesInView.{viewed-rule}
 use Rattle.replay.specs.Replay.{Replay, row-11, row-3, row-done, mostNumbers}
 use Rattle.replay.specs.Forms.{side, waiting, formOf, Passed}
-use Rattle.replay.specs.ReplaySteps.{rest, allFront, Ground, Kept, Onward, Bounded, Turned, Whole, Ended, Ran}
+use Rattle.replay.specs.ReplaySteps.{rest, allFront, Ground, WithinBounds, Onward, Bounded, Turned, Whole, Ended, Ran}
 use Rattle.replay.specs.declared.forms.Open.{Open}
 use Rattle.replay.specs.declared.derivation.Move.{Move}
 use Rattle.replay.specs.declared.derivation.Move.the-variants.{On, End, Stop}
@@ -60,7 +60,7 @@ unfolding side waiting
 kept-size ws stack = refl
 
 pub kept-start : {ws list stack : List ℕ} → 3 ≤ length ws → 2 * length list ≤ length stack →
-    Kept ws list stack outset
+    WithinBounds ws list stack outset
 kept-start {ws} {list} {stack} h k = record {
   room = k;
   inside = h;
@@ -78,7 +78,7 @@ onward {ws} {list} {stack} {stack′} {o} m e z =
 
 module _ {g : Grammar} {ws list stack : List ℕ} {o : Open} {before sentence : List ℕ}
     (held : Held g ws list stack o before sentence) where
-  pub held-passed : {places : List ℕ} {n rules : ℕ} {o′ : Open} {sentence′ : List ℕ} → Kept ws list stack o →
+  pub held-passed : {places : List ℕ} {n rules : ℕ} {o′ : Open} {sentence′ : List ℕ} → WithinBounds ws list stack o →
       View ws places n rules g → Passed ws n o sentence o′ sentence′ → Held g ws list stack o′ before sentence′
   held-passed kept view p = record {
     passed = held .passed ++ p .ts;

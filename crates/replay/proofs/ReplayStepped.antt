@@ -13,7 +13,7 @@ use Rattle.grammar.specs.Replaying.{derived, stopped, replayed}
 use Rattle.layout.specs.View.{View}
 use Rattle.layout.proofs.RulesInView.{viewed-rule, viewed-left}
 use Rattle.replay.specs.Forms.{side, formOf, waitingAbove, behind, Passed, Openable, Opened}
-use Rattle.replay.specs.ReplaySteps.{rest, allFront, toDo, Ground, Kept, Onward}
+use Rattle.replay.specs.ReplaySteps.{rest, allFront, toDo, Ground, WithinBounds, Onward}
 use Rattle.replay.specs.declared.forms.Open.{Open}
 use Rattle.replay.proofs.FormSteps.{side-is, side-length, form-first, form-above, form-empty, form-passed}
 use Rattle.replay.proofs.ReplayMoves as moves
@@ -31,7 +31,7 @@ module _ {ws places : List ℕ} {n rules : ℕ} {g : Grammar} (view : View ws pl
       ap (λ (p : ℕ). side ws (p + 2) (length w)) (view .begin k (rule-number r)) ∙
       side-is ws w (placeOf g k + 2) (in-words.symbol-stands ws g (view .is) k A w (r .stands))
 
-module _ {ws list stack : List ℕ} {o : Open} (kept : Kept ws list stack o) where
+module _ {ws list stack : List ℕ} {o : Open} (kept : WithinBounds ws list stack o) where
   abbrev first : ℕ
   first = getD ws (o .at) 0
 
@@ -148,17 +148,17 @@ module _ {ws list stack : List ℕ} {o : Open} (kept : Kept ws list stack o) whe
         }
 
 -- a step back
-pub went-back : {ws list stack : List ℕ} {o o′ : Open} → Kept ws list stack o → o .left ≡ 0 → 0 < o .depth →
+pub went-back : {ws list stack : List ℕ} {o o′ : Open} → WithinBounds ws list stack o → o .left ≡ 0 → 0 < o .depth →
     o′ ≡ waitingAbove stack o → Onward ws list stack o stack o′
 went-back kept h d e = rw e (back-bounded kept h d)
 
-pub goes-back : {ws list stack : List ℕ} {o o′ : Open} → Kept ws list stack o → o .left ≡ 0 → 0 < o .depth →
+pub goes-back : {ws list stack : List ℕ} {o o′ : Open} → WithinBounds ws list stack o → o .left ≡ 0 → 0 < o .depth →
     o′ ≡ waitingAbove stack o → (g : Grammar) →
     (o′ .tokens ≡ o .tokens) × (rest g ws list stack o ≡ rest g ws list stack o′)
 goes-back kept h d e g = rw e (refl, back kept g h d)
 
 -- tokens passed
-module _ {ws list stack : List ℕ} {n : ℕ} {o o′ : Open} {sentence sentence′ : List ℕ} (kept : Kept ws list stack o)
+module _ {ws list stack : List ℕ} {n : ℕ} {o o′ : Open} {sentence sentence′ : List ℕ} (kept : WithinBounds ws list stack o)
     (passed : Passed ws n o sentence o′ sentence′) where
   pub passes : (g : Grammar) → g .N ≤ n → rest g ws list stack o ≡ allFront (passed .ts) (rest g ws list stack o′)
   passes g h =
@@ -170,7 +170,7 @@ module _ {ws list stack : List ℕ} {n : ℕ} {o o′ : Open} {sentence sentence
   passed-size : length (formOf ws stack o) ≡ length (passed .ts) + length (formOf ws stack o′)
   passed-size = ap length (form-passed ws stack o passed) ∙ length-append (passed .ts) (formOf ws stack o′)
 
-  pub passes-kept : Kept ws list stack o′
+  pub passes-kept : WithinBounds ws list stack o′
   passes-kept =
       let size = passed-size in
       let depth = passed .same-depth in

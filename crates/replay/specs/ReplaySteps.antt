@@ -39,7 +39,7 @@ pub record Ground (ws places list : List ℕ) (rules : ℕ) : Type 0 where
   pub whole : (k : ℕ) → k < rules → getD places k 0 + 2 + countAt ws (getD places k 0) ≤ length ws
 
 -- the bounds of what is open
-pub record Kept (ws list stack : List ℕ) (o : Open) : Type 0 where
+pub record WithinBounds (ws list stack : List ℕ) (o : Open) : Type 0 where
   pub room : 2 * length list ≤ length stack
   pub inside : o .at + o .left ≤ length ws
   pub all-inside : (i : ℕ) → i < o .depth → atOf stack i + leftOf stack i ≤ length ws
@@ -52,7 +52,7 @@ abbrev pub toDo : List ℕ → List ℕ → List ℕ → Open → ℕ
 toDo ws list stack o = 65537 * (length list - o .next) + length (formOf ws stack o) + o .depth
 
 pub record Onward (ws list stack : List ℕ) (o : Open) (stack′ : List ℕ) (o′ : Open) : Type 0 where
-  pub kept : Kept ws list stack′ o′
+  pub kept : WithinBounds ws list stack′ o′
   pub less : toDo ws list stack′ o′ < toDo ws list stack o
 
 -- a move keeps the bounds

@@ -4,7 +4,7 @@ ghost use Prim.Native.Nat.{ℕ, _*_, _≤_, _<_};
 ghost use lib.ListN.{length, getD};
 ghost use Rattle.grammar.specs.Words.{Grammar};
 ghost use Rattle.layout.specs.View.{View};
-ghost use Rattle.replay.specs.ReplaySteps.{Ground, Kept, Bounded, Turned, Ran};
+ghost use Rattle.replay.specs.ReplaySteps.{Ground, WithinBounds, Bounded, Turned, Ran};
 use crate::forms::Open;
 use crate::forms::above;
 use crate::forms::open_rule;
@@ -35,7 +35,7 @@ fn expand(
     stack: &mut [u16],
 ) -> Move
     requires { ⌜ (0 < form .left) × (Ground (now words) (now places) (now list) rules ×
-        Kept (now words) (now list) (now stack) form) ⌝ }
+        WithinBounds (now words) (now list) (now stack) form) ⌝ }
     ensures { λ r. ⌜ Bounded (now (words .entry)) (now (list .entry)) (now (stack .entry)) form r
         (now (stack .exit)) ⌝ }
     ensures { λ r. ⌜ ((g : Grammar) (n : ℕ) → View (now (words .entry)) (now (places .entry)) n rules g →
@@ -69,7 +69,7 @@ fn step(
     form: Open,
     stack: &mut [u16],
 ) -> Move
-    requires { ⌜ Ground (now words) (now places) (now list) rules × Kept (now words) (now list) (now stack) form ⌝ }
+    requires { ⌜ Ground (now words) (now places) (now list) rules × WithinBounds (now words) (now list) (now stack) form ⌝ }
     ensures { λ r. ⌜ Bounded (now (words .entry)) (now (list .entry)) (now (stack .entry)) form r
         (now (stack .exit)) ⌝ }
     ensures { λ r. ⌜ ((g : Grammar) (n : ℕ) → View (now (words .entry)) (now (places .entry)) n rules g →

@@ -24,23 +24,23 @@ use Rattle.tables.specs.declared.TableAnswer.the-variants as table-answer
 use Rattle.tables.proofs.Main.{tables-own}
 use Rattle.handout.specs.Night.{clear}
 use Rattle.lines.specs.Lines.{suiteLine, refusedLine, mostLine}
-use Rattle.lines.specs.Room.{Written}
+use Rattle.lines.specs.Room.{LineWritten}
 use Rattle.lines.proofs.Main.{front, within, suite-few, refused-few}
 use Rattle.suite.specs.declared.Piece.{Piece}
 use Rattle.suite.specs.Text.{sentenceLines, firstLine, Unpacks, refused-file, refused-words}
 use Rattle.suite.specs.Pieces.{going, whole}
 use Rattle.suite.specs.Begun as begun
-use Rattle.suite.specs.Begun.{OneLine, SuiteLine, FirstLine, of-grammar, of-fault, OfWords, Begun}
+use Rattle.suite.specs.Begun.{OneLine, SuiteLine, FirstLine, of-grammar, of-fault, OfWords, TextBegun}
 
 module _ {text text′ : List ℕ} {past : ℕ} (room : mostLine ≤ length text) where
   pub one-line : (number place : ℕ) → number < 65536 → place < 18446744073709551616 →
-      Written (refusedLine number place) text 0 text′ past →
+      LineWritten (refusedLine number place) text 0 text′ past →
       OneLine number place text′ (record { words = 0; count = 0; length = past; over = true })
   one-line number place h k w =
       let few = refused-few number place h k in
       record { words = refl; over = refl; within = within w (omega arith); front = front w (omega arith) }
 
-  suite-line : (words : List ℕ) {g : Grammar} → layout words ≡ reads g → Written (firstLine g) text 0 text′ past →
+  suite-line : (words : List ℕ) {g : Grammar} → layout words ≡ reads g → LineWritten (firstLine g) text 0 text′ past →
       SuiteLine g (length words) text′ (record { words = length words; count = 0; length = past; over = false })
   suite-line words {g} e w =
       let ok = in-bounds words e in
@@ -57,7 +57,7 @@ module _ {text text′ : List ℕ} {past : ℕ} (room : mostLine ≤ length text
 
   -- by what the judge answers
   pub judged-grammar : (words : List ℕ) {N T S n : ℕ} → answerOf (layout words) ≡ layout-answer.Grammar N T S n →
-      Written (suiteLine N T n) text 0 text′ past →
+      LineWritten (suiteLine N T n) text 0 text′ past →
       FirstLine words text′ (record { words = length words; count = 0; length = past; over = false })
   judged-grammar words {N} {T} {S} {n} e w = go (layout words) refl e
     where
@@ -98,7 +98,7 @@ of-rows {words} room (row-3 {g = g} e a h) = absurd (omega (arith, table-few g (
 
 -- by what `unpack` answers
 pub begun-refused : {file words before after table text : List ℕ} {so : Piece} {number place : ℕ} → 8707 ≤ length before →
-    Unpacked file before (file-answer.Refused number place) after → OneLine number place text so → Begun file words table text so
+    Unpacked file before (file-answer.Refused number place) after → OneLine number place text so → TextBegun file words table text so
 begun-refused room p line = record {
   words-within = omega (arith, line .words);
   within = line .within;
@@ -113,7 +113,7 @@ unpacks {file} p =
     (record { version = version; long = long; are = written .front }, written .within)
 
 pub begun-words : {file before after table text : List ℕ} {so : Piece} {n : ℕ} → Unpacked file before (file-answer.Done n) after →
-    OfWords (take n after) table text so → Begun file after table text so
+    OfWords (take n after) table text so → TextBegun file after table text so
 unfolding sentenceLines
 begun-words p (begun.refused-words room tables line) =
     let (x, refused, number-is, place-is) = of-rows room tables in

@@ -11,7 +11,7 @@ use Rattle.suite.specs.declared.Piece.{Piece}
 use Rattle.suite.specs.Text.{Text}
 use Rattle.suite.specs.Pieces.{Clear, SoFar, going, whole, FirstPiece, NextPiece, Pieces, first, next, Reached, Made}
 use Rattle.suite.specs.Filled.{Waits, Filled}
-use Rattle.suite.specs.Begun.{Begun}
+use Rattle.suite.specs.Begun.{TextBegun}
 use Rattle.suite.proofs.MoreLines.{true-not-false, count-few}
 
 module _ {file words table : List ℕ} where
@@ -44,7 +44,7 @@ module _ {file words table : List ℕ} where
       (λ is. omega (arith, p .more is), omega arith)
 
 -- what the two functions promise, of the beginning and of what `fill` has put behind it
-pub first-made : {file words table marks marks′ text text′ : List ℕ} {so then : Piece} → Begun file words table text so →
+pub first-made : {file words table marks marks′ text text′ : List ℕ} {so then : Piece} → TextBegun file words table text so →
     Clear file marks → Filled (take (so .words) words) table marks marks′ text text′ so then →
     FirstPiece file words table marks′ text′ then
 first-made {file} {marks = marks} begun zeros f = record {

@@ -9,7 +9,7 @@ use Rattle.handout.specs.Next.{Lent, NextPromise}
 use Rattle.handout.specs.declared.NextAnswer.{NextAnswer}
 use Rattle.handout.specs.declared.NextAnswer.the-variants.{Next, Finished, Refused}
 use Rattle.lines.specs.Lines.{sentenceLine, endLine, refusedLine}
-use Rattle.lines.specs.Room.{Written}
+use Rattle.lines.specs.Room.{LineWritten}
 use Rattle.suite.specs.declared.Piece.{Piece}
 
 -- the line, of the buffers after the call and of the number of sentences before it
@@ -32,14 +32,14 @@ isLast (Refused k p) = true
 -- the last line written behind what waits in the text
 abbrev pub Ended : List ℕ → List ℕ → Piece → Piece → Type 0
 Ended text text′ so then =
-    Written (endLine (so .count)) text (so .length) text′ (then .length) × (then .words ≡ so .words) ×
+    LineWritten (endLine (so .count)) text (so .length) text′ (then .length) × (then .words ≡ so .words) ×
     (then .count ≡ so .count) × (then .over ≡ true)
 
 -- one call of `next`, and its line written behind what waits in the text
 pub record Answered (words table : List ℕ) (before after : Lent) (text text′ : List ℕ) (so then : Piece) : Type 0 where
   pub answer : NextAnswer
   pub promise : NextPromise words table before answer after
-  pub line : Written (lineOf answer after (so .count)) text (so .length) text′ (then .length)
+  pub line : LineWritten (lineOf answer after (so .count)) text (so .length) text′ (then .length)
   pub same-words : then .words ≡ so .words
   pub count : then .count ≡ counted answer (so .count)
   pub last : then .over ≡ isLast answer

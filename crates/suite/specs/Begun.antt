@@ -45,7 +45,7 @@ pub data OfWords (words table text : List ℕ) (so : Piece) : Type 0 where
       OfWords words table text so
 
 -- of a file: with whatever clear marks, the front of the text is the text so far
-pub record Begun (file words table text : List ℕ) (so : Piece) : Type 0 where
+pub record TextBegun (file words table text : List ℕ) (so : Piece) : Type 0 where
   pub words-within : so .words ≤ length words
   pub within : so .length ≤ length text
   pub so-far : (marks : List ℕ) → Clear file marks →

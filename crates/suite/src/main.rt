@@ -11,7 +11,7 @@ ghost use Rattle.entries.specs.Table.{mostTable};
 ghost use Rattle.handout.specs.Next.{Lent};
 ghost use Rattle.lines.specs.Lines.{mostLine};
 ghost use Rattle.suite.specs.Answered.{Ended, Answered};
-ghost use Rattle.suite.specs.Begun.{OneLine, FirstLine, OfWords, Begun};
+ghost use Rattle.suite.specs.Begun.{OneLine, FirstLine, OfWords, TextBegun};
 ghost use Rattle.suite.specs.Filled.{Waits, Filled};
 ghost use Rattle.suite.specs.Pieces.{Clear, Large, FirstPiece, Reached, NextPiece, Made};
 use entries::LIMIT;
@@ -197,7 +197,7 @@ fn ended(text: &mut [u8], so: Piece) -> Piece
 // The first line of a file's text, at the front of the text.
 fn begin(file: &[u8], words: &mut [u16], table: &mut [u16], text: &mut [u8]) -> Piece
     requires { ⌜ (8707 ≤ length (now words)) × (mostTable ≤ length (now table)) × (mostLine ≤ length (now text)) ⌝ }
-    ensures { λ r. ⌜ Begun (now (file .entry)) (now (words .exit)) (now (table .exit)) (now (text .exit)) r ⌝ }
+    ensures { λ r. ⌜ TextBegun (now (file .entry)) (now (words .exit)) (now (table .exit)) (now (text .exit)) r ⌝ }
 {
     match packed::unpack(file, words) {
         FileAnswer::Done(count) => of_words(&words[..count], table, text),

@@ -7,14 +7,14 @@ use lib.ListN.{length, take}
 use lib.Seq.{take-length}
 use borrow.Author.Needs.{needs}
 use Rattle.lines.specs.Lines.{spaced}
-use Rattle.lines.specs.Room.{Written}
+use Rattle.lines.specs.Room.{LineWritten}
 use Rattle.lines.proofs.WrittenInRoom.{nothing, kept}
 use Rattle.lines.proofs.NumbersSpaced.{next-number}
 use Rattle.lines.proofs.numbers.Statement.{statement}
 use Rattle.lines.proofs.numbers.Tie as tie
 
 abbrev Inv-loop : tie.InvT-loop
-Inv-loop list text₀ at past₀ i₀ text past i = (i ≤ length list) × Written (spaced (take i list)) text₀ at text past
+Inv-loop list text₀ at past₀ i₀ text past i = (i ≤ length list) × LineWritten (spaced (take i list)) text₀ at text past
 
 abbrev μ-loop : tie.MeasureT-loop
 μ-loop list text₀ at past₀ i₀ text past i = length list - i

@@ -6,13 +6,13 @@ use mathlib.Core.List.{List}
 use lib.ListN.{length, take}
 use lib.Seq.{take-length}
 use borrow.Author.Needs.{needs}
-use Rattle.lines.specs.Room.{Written}
+use Rattle.lines.specs.Room.{LineWritten}
 use Rattle.lines.proofs.WrittenInRoom.{nothing, one-more, kept}
 use Rattle.lines.proofs.word.Statement.{statement}
 use Rattle.lines.proofs.word.Tie as tie
 
 abbrev Inv-loop : tie.InvT-loop
-Inv-loop octets text₀ at past₀ i₀ text past i = (i ≤ length octets) × Written (take i octets) text₀ at text past
+Inv-loop octets text₀ at past₀ i₀ text past i = (i ≤ length octets) × LineWritten (take i octets) text₀ at text past
 
 abbrev μ-loop : tie.MeasureT-loop
 μ-loop octets text₀ at past₀ i₀ text past i = length octets - i

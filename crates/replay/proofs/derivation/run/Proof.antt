@@ -5,7 +5,7 @@ use native.Mathlib.Omega.{arith}
 use lib.ListN.{length}
 use Rattle.grammar.specs.Words.{Grammar}
 use Rattle.layout.specs.View.{View}
-use Rattle.replay.specs.ReplaySteps.{Kept, toDo}
+use Rattle.replay.specs.ReplaySteps.{WithinBounds, toDo}
 use Rattle.replay.proofs.ReplayStepped.{passes-kept, passes-no-more}
 use Rattle.replay.proofs.ReplayRun.{Held, held-start, kept-start, onward, held-passed, held-on, held-end, held-stop}
 use borrow.Author.Needs.{needs}
@@ -14,7 +14,7 @@ use Rattle.replay.proofs.derivation.run.Tie as tie
 
 abbrev Inv-loop : tie.InvT-loop
 Inv-loop words places n rules list stack₀ sentence₀ form₀ stack sentence form =
-    Kept words list stack form × (length stack ≡ length stack₀) × (length sentence ≡ length sentence₀) ×
+    WithinBounds words list stack form × (length stack ≡ length stack₀) × (length sentence ≡ length sentence₀) ×
     ((g : Grammar) → View words places n rules g → Held g words list stack form sentence₀ sentence)
 
 abbrev μ-loop : tie.MeasureT-loop
