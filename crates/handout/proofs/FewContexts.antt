@@ -1,5 +1,5 @@
--- A way up by context choices has fewer steps than there are nonterminals: contexts fall from each nonterminal to the next, and with each
--- step there is one nonterminal less whose context is below. Assumes nothing.
+-- A way up by context choices has fewer steps than there are nonterminals: contexts fall from each nonterminal to the next, and
+-- with each step there is one nonterminal less whose context is below. Assumes nothing.
 use Prim.Native.Nat.{ℕ, zero, suc, _+_, _≤_, _<_}
 use native.Mathlib.Decide.{decLt, ℕ-discrete}
 use native.Mathlib.Nat.{not-suc-le-zero}

@@ -1,5 +1,5 @@
 -- What the promises settle.
-pub mod MarksSettled
+pub mod Targets
 pub mod NextSettles
 pub mod NextMet
 pub mod NextExact
@@ -8,8 +8,8 @@ pub mod NextDead
 pub mod Listings
 pub mod ListerSteps
 pub mod ListerWrites
--- What the marking comes to.
-pub mod MarkLaws
+-- What the table says of sizes.
+pub mod SizesByTable
 -- What the tree lister writes.
 pub mod OpenListings
 pub mod BesideSteps

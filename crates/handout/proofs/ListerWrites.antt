@@ -1,6 +1,6 @@
--- What the lister's contracts come to for a caller who has a tree in hand: of a rule it has written its number and the sentences and
--- derivations of its symbols' chosen trees; all such trees are listed alike. Where both parts have room and nothing was listed before, they
--- stand at the parts' fronts. Assumes nothing.
+-- What the lister's contracts come to for a caller who has a tree in hand: of a rule it has written its number and the sentences
+-- and derivations of its symbols' chosen trees; all such trees are listed alike. Where both parts have room and nothing was listed
+-- before, they stand at the parts' fronts. Assumes nothing.
 use Prim.Native.Nat.{ℕ, _≤_}
 use native.Mathlib.Nat.{zero-add}
 use native.Mathlib.Omega.{arith}
@@ -16,12 +16,12 @@ use Rattle.grammar.specs.Least.{ChosenForest}
 use Rattle.grammar.proofs.SameListing.{same-forest}
 use Rattle.layout.proofs.RulesInView.{viewed-right}
 use Rattle.handout.specs.declared.lister.Lengths.{Lengths}
-use Rattle.handout.specs.Listing.{Known, Wrote, RuleWritten}
+use Rattle.handout.specs.Listing.{TableView, Wrote, RuleListed}
 
-module _ {words places table : List ℕ} {n : ℕ} {g : Grammar} (known : Known words places table n g) where
+module _ {words places table : List ℕ} {n : ℕ} {g : Grammar} (known : TableView words places table n g) where
   module _ {a b x y : List ℕ} {p q : Lengths} where
     -- LISTER: the rule's number, and every chosen forest of its symbols
-    pub rule-written : {k A : ℕ} {w : List ℕ} → RuleWritten words places table n k a b x y p q → RuleAt g k A w →
+    pub rule-written : {k A : ℕ} {w : List ℕ} → RuleListed words places table n k a b x y p q → RuleAt g k A w →
         (f : Forest g w) → ChosenForest measure g f → Wrote (sentences f) (k ∷ derivations f) a b x y p q
     rule-written h rule f chosen =
         let l = h .listed g known in

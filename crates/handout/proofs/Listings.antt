@@ -1,5 +1,4 @@
--- What the lister writes, one part after the other: runs of stores, listings of symbols in order, and the sizes that the table
--- gives them, which fall along chosen rules. Assumes nothing.
+-- What the lister writes, one part after the other: runs of stores, and listings and sizes of symbols in order. Assumes nothing.
 use Prim.Native.Nat.{ℕ, _+_, _≤_, _<_}
 use native.Mathlib.Numerals.{add-one}
 use native.Mathlib.Omega.{arith}
@@ -7,21 +6,13 @@ use mathlib.Core.List.{List, [], _∷_, _++_, append-assoc, append-nil}
 use mathlib.Core.Path.{_≡_, refl, ap, sym, _∙_}
 use lib.ListN.{length, getD, take, drop, length-append, take-append-drop}
 use lib.Seq.{take-suc}
-use borrow.Author.Tests.{lt-ltb, le-ltb}
 use Rattle.answers.proofs.Stores.{sets-append}
-use Rattle.grammar.specs.Words.{Grammar, R, RuleAt}
+use Rattle.grammar.specs.Words.{Grammar}
 use Rattle.grammar.specs.Tree.{Forest, nil, leaf, child, sentence, sentences, derivation, derivations}
 use Rattle.grammar.specs.Terms.{measure}
-use Rattle.grammar.specs.Least.{Least, RuleSize, Chosen, ChosenForest}
-use Rattle.grammar.specs.Certificates.{symbolSize, wordSize}
-use Rattle.grammar.proofs.Certificate.{word-sizes}
-use Rattle.grammar.proofs.LayoutExact.{in-bounds}
-use Rattle.grammar.proofs.Unique.{least-unique, sizes-unique}
-use Rattle.entries.specs.Table.{leastIn, chosenIn}
-use Rattle.tables.proofs.Main.{entry-front}
-use Rattle.layout.proofs.RulesInView.{viewed-right}
+use Rattle.grammar.specs.Least.{ChosenForest}
 use Rattle.handout.specs.declared.lister.Lengths.{Lengths}
-use Rattle.handout.specs.Listing.{Known, sizeBy, sizesBy, rightOf, SymbolListed, of-terminal, of-nonterminal, SymbolsListed}
+use Rattle.handout.specs.Listing.{sizeBy, sizesBy, SymbolListing, of-terminal, of-nonterminal, SymbolsListing}
 use Rattle.handout.specs.Listing.{Wrote}
 
 -- one after the other
@@ -39,8 +30,8 @@ nothing a x p = record { more-tokens = omega arith; more-rules = omega arith; se
 
 -- the symbols of w listed, and then one more
 module _ {g : Grammar} where
-  pub one-more : {w : List ℕ} (f : Forest g w) {s : ℕ} {us vs : List ℕ} → ChosenForest measure g f → SymbolListed g s us vs →
-      SymbolsListed g (w ++ s ∷ []) (sentences f ++ us) (derivations f ++ vs)
+  pub one-more : {w : List ℕ} (f : Forest g w) {s : ℕ} {us vs : List ℕ} → ChosenForest measure g f → SymbolListing g s us vs →
+      SymbolsListing g (w ++ s ∷ []) (sentences f ++ us) (derivations f ++ vs)
   one-more nil h (of-terminal p) = record { forest = leaf p nil; chosen = h; tokens = refl; rules = refl }
   one-more nil h (of-nonterminal t d) = record {
     forest = child t nil;
@@ -79,53 +70,3 @@ module _ (n : ℕ) (table : List ℕ) where
   sizes-within w i h =
       let whole = ap (sizesBy n table) (take-append-drop (i + 1) w) in
       omega (arith, whole, sizes-append (take (i + 1) w) (drop (i + 1) w), sizes-more w i h)
-
-  pub terminal-size : (s : ℕ) → n ≤ s → sizeBy n table s ≡ 1
-  unfolding sizeBy
-  terminal-size s h = rw (le-ltb s n h)
-
-  least-size : (s : ℕ) → s < n → sizeBy n table s ≡ leastIn table s
-  unfolding sizeBy
-  least-size s h = rw (lt-ltb s n h)
-
--- the sizes are the grammar's, and a nonterminal's is 1 plus those of its chosen rule's symbols
-sizes-are : (g : Grammar) (table w : List ℕ) → wordSize measure g (λ A. leastIn table A) w ≡ sizesBy (g .N) table w
-unfolding sizesBy sizeBy wordSize symbolSize
-sizes-are g table [] = refl
-sizes-are g table (s ∷ w) = ap (λ x. sizeBy (g .N) table s + x) (sizes-are g table w)
-
-module _ {words places table : List ℕ} {n : ℕ} {g : Grammar} (known : Known words places table n g) where
-  known-least : (A : ℕ) → A < g .N → Least measure g A (leastIn table A)
-  known-least A lt = rw (entry-front g table A 0 lt (omega arith)) at (known .tabled .leasts A lt)
-
-  pub known-chosen : (A : ℕ) → A < g .N → Chosen measure g A (chosenIn table A)
-  known-chosen A lt = rw (entry-front g table A 1 lt (omega arith)) at (known .tabled .chosen A lt)
-
-  -- a rule's size is 1 plus those of its symbols as the lister reads them
-  pub rule-size-by : {A k x : ℕ} → RuleSize measure g A k x → x ≡ 1 + sizesBy n table (rightOf words places k)
-  rule-size-by r =
-      let right = viewed-right (known .view) (r .rule) in
-      let others = sizes-unique (r .sizes) (word-sizes measure g (λ A. leastIn table A) known-least (r .w)) in
-      let sizes = sizes-are g table (r .w) ∙ ap (λ m. sizesBy m table (r .w)) (sym (known .view .nonterminals)) in
-      omega (arith, r .is, others, sizes, ap (sizesBy n table) right)
-
-  -- the chosen rule of s, with its right side as the lister reads it
-  pub record ChosenRule (s k : ℕ) : Type 0 where
-    pub rule : RuleAt g k s (rightOf words places k)
-    pub chosen : Chosen measure g s k
-    pub size : sizeBy n table s ≡ 1 + sizesBy n table (rightOf words places k)
-
-  pub chosen-rule : (s k : ℕ) → s < n → k ≡ chosenIn table s → ChosenRule s k
-  chosen-rule s k h e =
-      let lt : s < g .N = omega (arith, known .view .nonterminals) in
-      let c : Chosen measure g s k = rw (← e) at (known-chosen s lt) in
-      let figure = least-unique (c .least) (known-least s lt) in
-      let rule = c .attains .rule in
-      record {
-        rule = rw (viewed-right (known .view) rule) rule;
-        chosen = c;
-        size = omega (arith, least-size n table s h, figure, rule-size-by (c .attains));
-      }
-
-  pub number-low : {k : ℕ} → k < R g → k < 256
-  number-low h = omega (arith, in-bounds words (known .view .is) .at-most-256)

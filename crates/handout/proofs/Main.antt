@@ -5,9 +5,9 @@ use mathlib.Core.Path.{_≡_}
 use mathlib.Core.Logic.{_↔_}
 use mathlib.Core.List.{List}
 use lib.ListN.{length}
-use Rattle.answers.specs.Refusals.{Refusal, broken-layout}
+use Rattle.answers.specs.GrammarRefusals.{broken-layout}
 use Rattle.answers.specs.Buffers.{over}
-use Rattle.grammar.specs.Words.{Grammar, R, layout, reads, FaultAt}
+use Rattle.grammar.specs.Words.{Grammar, R, layout, reads, Are, FaultAt}
 use Rattle.grammar.specs.Derivation.{ProductionCoverage}
 use Rattle.grammar.specs.Refusals.{Accepted}
 use Rattle.replay.specs.Replay.{Replay}
@@ -15,14 +15,13 @@ use Rattle.replay.specs.declared.ReplayAnswer.{ReplayAnswer}
 use Rattle.replay.specs.declared.ReplayAnswer.the-variants.{Done}
 use Rattle.entries.specs.Table.{HasTable}
 use Rattle.tables.specs.Dead.{Dead}
-use Rattle.grammar.specs.Words.{Are}
 use Rattle.grammar.specs.Terms.{limit}
-use Rattle.handout.specs.Next as next
+use Rattle.handout.specs.Answers.{Case, answer, of-words}
 use Rattle.handout.specs.Next.{NextPromise, Lent}
 use Rattle.handout.specs.Given.{Given, GivenFinished, GivenNext, Handed, SaysDead}
 use Rattle.handout.specs.Night.{Handout, Night, Over, Enough, GoesOn, HandedOut, SentenceOf, UsedIn, Proper, AllProper}
 use Rattle.handout.specs.declared.NextAnswer.{NextAnswer}
-use Rattle.handout.specs.declared.NextAnswer.the-variants.{Next, Finished}
+use Rattle.handout.specs.declared.NextAnswer.the-variants.{Next, Finished, Refused}
 use Rattle.handout.proofs.NextSettles as NextSettles
 use Rattle.handout.proofs.NextMet as NextMet
 use Rattle.handout.proofs.NextExact as NextExact
@@ -41,14 +40,10 @@ pub next-met : (words table : List ℕ) (before : Lent) →
     (a : NextAnswer) × (after : Lent) × NextPromise words table before a after
 next-met = NextMet.next-met
 
--- Each answer is given exactly when document 01 says so; `Given` says it of each refusal.
-pub next-refuses : {words table : List ℕ} {before after : Lent} {a : NextAnswer} → NextPromise words table before a after →
-    (r : Refusal) → (a ≡ next.refused r) ↔ Given words table before r
-next-refuses = NextExact.next-refuses
-
-pub next-first-offence : {words table : List ℕ} {before after : Lent} {a : NextAnswer} →
-    NextPromise words table before a after → (p : ℕ) → (a ≡ next.refused (broken-layout p)) ↔ FaultAt words p
-next-first-offence = NextExact.next-first-offence
+-- Each answer is given exactly when document 01 says so (`Given`).
+pub next-exactly : {words table : List ℕ} {before after : Lent} {a : NextAnswer} → NextPromise words table before a after →
+    (x : Case) → (a ≡ answer x) ↔ Given words table before x
+next-exactly = NextExact.next-exactly
 
 pub next-finished : {words table : List ℕ} {before after : Lent} {a : NextAnswer} → NextPromise words table before a after →
     (a ≡ Finished) ↔ GivenFinished words table before
@@ -58,9 +53,13 @@ pub next-next : {words table : List ℕ} {before after : Lent} {a : NextAnswer} 
     (r n m : ℕ) → (a ≡ Next r n m) ↔ GivenNext words table before r n m
 next-next = NextExact.next-next
 
+pub next-first-offence : {words table : List ℕ} {before after : Lent} {a : NextAnswer} →
+    NextPromise words table before a after → (p : ℕ) → (a ≡ answer (of-words (broken-layout p))) ↔ FaultAt words p
+next-first-offence = NextExact.next-first-offence
+
 -- At a refusal and at Finished the buffers keep their content; at Next they are as `Handed` says.
 pub next-keeps : {words table : List ℕ} {before after : Lent} {a : NextAnswer} → NextPromise words table before a after →
-    (r : Refusal) → a ≡ next.refused r → after ≡ before
+    {number place : ℕ} → a ≡ Refused number place → after ≡ before
 next-keeps = NextExact.next-keeps
 
 pub next-finished-keeps : {words table : List ℕ} {before after : Lent} {a : NextAnswer} →

@@ -1,206 +1,201 @@
 -- The outcomes of `next`, each a row of document 01: what the functions on the way promise each other, put together.
 -- Assumes nothing.
-use Prim.Native.Nat.{ℕ, _+_, _*_, _≤_, _<_}
+use Prim.Native.Nat.{ℕ, _≤_, _<_}
 use native.Mathlib.Omega.{arith}
 use mathlib.Core.Path.{_≡_, refl, ap, _∙_}
 use mathlib.Core.List.{List}
-use lib.ListN.{length, getD, take}
+use lib.ListN.{length, take}
+use Rattle.answers.specs.GrammarRefusals.{GrammarRefusal, number, place, broken-layout, no-tree, unreached, oversize}
 use Rattle.answers.specs.Buffers.{over}
-use Rattle.grammar.specs.Words.{layout}
-use Rattle.grammar.specs.Words as W
+use Rattle.answers.proofs.WrittenFromFront.{written}
+use Rattle.grammar.specs.Words.{layout, Are}
 use Rattle.grammar.specs.Tree.{Tree, sentence, derivation}
 use Rattle.grammar.specs.Terms.{measure}
 use Rattle.grammar.specs.Least.{TreeOf}
-use Rattle.grammar.proofs.LayoutExact.{layout-exact, in-bounds}
-use Rattle.layout.proofs.WordsRead.{places-of}
+use Rattle.grammar.proofs.LayoutExact.{in-bounds}
 use Rattle.grammar.proofs.TreeOfExists.{tree-of-exists}
-use Rattle.grammar.proofs.Totals.{tree-of-total}
-use Rattle.grammar.proofs.SizeIsLength.{size-is-length}
-use Rattle.grammar.proofs.Unique.{total-unique}
-use Rattle.tables.proofs.Main.{total-front}
-use Rattle.grammar.proofs.RuleNumbers.{rule-number}
 use Rattle.layout.specs.Judge.{placesOf}
+use Rattle.layout.proofs.WordsRead.{places-of}
+use Rattle.entries.specs.Table.{totalIn, Own}
+use Rattle.table_test.specs.Promise.{Tested, its, not-its, placesWith, TestPromise}
+use Rattle.table_test.specs.declared.TableTest.{TableTest}
+use Rattle.table_test.specs.declared.TableTest.the-variants as test
+use Rattle.table_test.specs.declared.Testing.{Testing}
 use Rattle.tables.specs.Promise as tables
-use Rattle.tables.specs.Promise.{placesWith}
-use Rattle.tables.specs.declared.Testing.{Testing}
-use Rattle.tables.specs.declared.TableTest.{TableTest}
-use Rattle.tables.specs.declared.TableTest.the-variants as test
+use Rattle.tables.specs.declared.TableAnswer.{TableAnswer}
+use Rattle.tables.specs.declared.TableAnswer.the-variants as table-answer
+use Rattle.marks.specs.Marks.{FirstUnused}
+use Rattle.marks.specs.declared.LowestUnused.{LowestUnused}
+use Rattle.marks.specs.declared.LowestUnused.the-variants.{At, None}
 use Rattle.handout.specs.Next.{Lent, Marked, Wanted, NextPromise}
-use Rattle.handout.specs.Next.{row-4, row-5, row-6, row-7, row-8, row-9, finished, row-3, row-10, next}
-use Rattle.handout.specs.Asked.{Tabled, Asked, Requested}
-use Rattle.handout.specs.Listing.{Known, Wrote}
-use Rattle.handout.specs.TreeListing.{TreeReady, TreeCounted, TreeFits, TreeWritten, none-so-far}
-use Rattle.handout.specs.MarkSteps.{FirstUnused}
-use Rattle.handout.specs.declared.tree_lister.Request.{Request}
-use Rattle.handout.specs.declared.marks.Found.{Found}
-use Rattle.handout.specs.declared.marks.Found.the-variants.{At, Nothing}
-use Rattle.handout.specs.declared.lister.Lengths.{Lengths}
+use Rattle.handout.specs.Next.{row-4-7, row-8, row-9, row-finished, row-3, row-10, row-next}
+use Rattle.handout.specs.RowsPassed.{UpToEight, words-refused, table-refused, PastEight, Requested}
+use Rattle.handout.specs.Listing.{Wrote}
+use Rattle.handout.specs.TreeListing.{TreeReady, TreeCounted, TreeFits, TreeListed, none-so-far}
+use Rattle.handout.specs.declared.NextAnswer.{NextAnswer}
 use Rattle.handout.specs.declared.NextAnswer.the-variants.{Refused, Finished, Next}
-use Rattle.handout.proofs.MarkLaws.{lowest-found, none-found, marked-written}
+use Rattle.handout.specs.declared.tree_lister.Request.{Request}
+use Rattle.handout.specs.declared.lister.Lengths.{Lengths}
+use Rattle.handout.proofs.Targets.{lowest-found, none-found}
+use Rattle.handout.proofs.SizesByTable.{tree-within}
+use Rattle.handout.proofs.ListerSteps.{number-low}
 use Rattle.handout.proofs.ListerWrites.{at-front}
 
--- what the test refuses is refused
+-- without the table: what working one out is refused with, but for 3; and 8 where that, or nothing, refuses it
+not-3 : (x : GrammarRefusal) → ¬ (number x ≡ 3)
+not-3 (broken-layout p) e = omega arith
+not-3 (no-tree A) e = omega arith
+not-3 (unreached A) e = omega arith
+not-3 (oversize r) e = omega arith
+
+module _ {words buffer : List ℕ} where
+  pub done-without : {a : TableAnswer} {after : List ℕ} {n : ℕ} → tables.Tables words buffer a after → a ≡ table-answer.Done n →
+      UpToEight words (Refused 8 0)
+  done-without (tables.row-4-7 r) e = absurd (let z : _≡_ {A = ℕ} 0 1 = cc in omega arith)
+  done-without (tables.row-3 {g = g} read ok l) e = table-refused (g, read, ok)
+  done-without (tables.row-done {g = g} read ok l is) e = table-refused (g, read, ok)
+
+  pub refused-without : {a : TableAnswer} {after : List ℕ} {k p : ℕ} → tables.Tables words buffer a after →
+      a ≡ table-answer.Refused k p → (k ≡ 3 → UpToEight words (Refused 8 0)) × (¬ (k ≡ 3) → UpToEight words (Refused k p))
+  refused-without {k = k} {p = p} (tables.row-4-7 {x = x} r) e =
+      let same : number x ≡ k = cc in
+      let there : place x ≡ p = cc in
+      (λ three. absurd (not-3 x (same ∙ three)), λ n. rw (← same, ← there) (words-refused r))
+  refused-without {k = k} (tables.row-3 {g = g} read ok l) e =
+      (λ three. table-refused (g, read, ok), λ n. absurd (n (let same : k ≡ 3 = cc in same)))
+  refused-without (tables.row-done read ok l is) e = absurd (let z : _≡_ {A = ℕ} 0 1 = cc in omega arith)
+
 module _ {words table : List ℕ} (before : Lent) where
-  pub refuses-tested : {r : TableTest} {k p : ℕ} → tables.Tested words table r → r ≡ test.Refused k p →
-      NextPromise words table before (Refused k p) before
-  refuses-tested t e = go (rw e at t)
+  pub refuses-untabled : {r : TableTest} {a : NextAnswer} → Tested words table r → r ≡ test.NotIts → UpToEight words a →
+      NextPromise words table before a before
+  refuses-untabled {a = a} t e = refuse (none (rw e at t))
     where
-      go : {k p : ℕ} → tables.Tested words table (test.Refused k p) → NextPromise words table before (Refused k p) before
-      go (tables.test-4 e) = row-4 e
-      go (tables.test-5 e low) = row-5 e low
-      go (tables.test-6 e t low) = row-6 e t low
-      go (tables.test-7 e t u low) = row-7 e t u low
+      none : Tested words table test.NotIts → ¬ Are words (Own table)
+      none (not-its n) = n
 
-  pub refuses-8 : {r : TableTest} → tables.Tested words table r → r ≡ test.NotIts →
-      NextPromise words table before (Refused 8 0) before
-  refuses-8 t e = go (rw e at t)
-    where
-      go : tables.Tested words table test.NotIts → NextPromise words table before (Refused 8 0) before
-      go (tables.not-its e a n) = row-8 e a n
+      refuse : ¬ Are words (Own table) → {a : NextAnswer} → UpToEight words a → NextPromise words table before a before
+      refuse n (words-refused r) = row-4-7 r
+      refuse n (table-refused (g, read, ok)) = row-8 read ok (λ has. n (g, read, (ok, has)))
 
--- and else the table is the grammar's, whose rules stand where the test noted them
-pub own-table : {words table : List ℕ} {r : Testing} {rules : ℕ} → tables.TestPromise words table r → r .answer ≡ test.Its rules →
-    Tabled words (r .places) table rules
-own-table {words} {table} {r} p is = go (rw is at (p .tested)) (p .stand ∙ ap (λ a. placesWith a (placesOf (layout words))) is)
+-- and else the table is the grammar's, whose rules stand where the test noted them; N and the start are handed on as words
+pub own-table : {words table : List ℕ} {r : Testing} {n start rules n′ start′ : ℕ} → TestPromise words table r →
+    r .answer ≡ test.Its n start rules → (n ≤ 65535 → n′ ≡ n) → (start ≤ 65535 → start′ ≡ start) →
+    PastEight words (r .places) table n′ start′ rules
+own-table {words} {table} {r} {n} {start} {rules} {n′} {start′} p is same same′ =
+    go (rw is at (p .tested)) (p .stand ∙ ap (λ a. placesWith a (placesOf (layout words))) is) same same′
   where
-    go : {rules : ℕ} → tables.Tested words table (test.Its rules) → r .places ≡ placesOf (layout words) →
-        Tabled words (r .places) table rules
-    go (tables.its {g = g} e a h) s = record {
-      g = g;
-      accepted = a;
-      known = record { view = places-of words e s; tabled = h };
-      all-rules = refl;
-    }
+    go : {n start rules : ℕ} → Tested words table (test.Its n start rules) → r .places ≡ placesOf (layout words) →
+        (n ≤ 65535 → n′ ≡ n) → (start ≤ 65535 → start′ ≡ start) → PastEight words (r .places) table n′ start′ rules
+    go (its {g = g} read own) s n-is start-is =
+        let ok = in-bounds words read in
+        let few : n′ ≡ g .N = n-is (omega (arith, ok .nonterminals)) in
+        let first : start′ ≡ g .start = start-is (omega (arith, ok .nonterminals, ok .start-below)) in
+        rw few (record {
+          g = g;
+          accepted = own .0;
+          known = record { view = places-of words read s; tabled = own .1 };
+          starts-at = first;
+          all-rules = refl;
+        })
 
 -- with the table: 9, Finished, or a target
-module _ {words places table : List ℕ} {rules : ℕ} (t : Tabled words places table rules) where
+module _ {words places table : List ℕ} {n start rules : ℕ} (t : PastEight words places table n start rules) where
   pub refuses-9 : (before : Lent) → length (before .marks) < rules → NextPromise words table before (Refused 9 rules) before
   refuses-9 before l =
-      let n = t .all-rules in
-      rw n (row-9 (t .known .view .is) (t .accepted) (t .known .tabled) (omega arith))
+      let all = t .all-rules in
+      rw all (row-9 (t .known .view .is) (t .accepted) (t .known .tabled) (omega arith))
 
-  module _ {found : Found} where
-    pub finishes : (before : Lent) → FirstUnused (before .marks) rules found → found ≡ Nothing → rules ≤ length (before .marks) →
+  module _ {found : LowestUnused} where
+    pub finishes : (before : Lent) → FirstUnused (before .marks) rules found → found ≡ None → rules ≤ length (before .marks) →
         NextPromise words table before Finished before
     finishes before f q l =
-        let n = t .all-rules in
-        finished (t .known .view .is) (t .accepted) (t .known .tabled) (omega arith) (none-found (t .g) f n q)
+        let all = t .all-rules in
+        row-finished (t .known .view .is) (t .accepted) (t .known .tabled) (omega arith) (none-found (t .g) f all q)
 
-    pub asks : {marks : List ℕ} {r : ℕ} → FirstUnused marks rules found → found ≡ At r → rules ≤ length marks →
-        Asked words places table marks r
-    asks {r = r} f q l =
-        let n = t .all-rules in
+    pub requests : {marks : List ℕ} {r r′ total : ℕ} → FirstUnused marks rules found → found ≡ At r → rules ≤ length marks →
+        (r ≤ 65535 → r′ ≡ r) → total ≡ totalIn n table r′ →
+        Requested words places table marks (record { n = n; start = start; target = r; total = total })
+    requests {r = r} {r′ = r′} f q l same is =
+        let all = t .all-rules in
+        let low = lowest-found (t .g) f all r q in
+        let number : r′ ≡ r = same (omega (arith, number-low (t .known) (low .such .rule))) in
         record {
           g = t .g;
           accepted = t .accepted;
           known = t .known;
+          starts-at = t .starts-at;
           marked = omega arith;
-          target = lowest-found (t .g) f n r q;
+          target = low;
+          total = is ∙ ap (totalIn n table) number;
         }
 
 -- the target's tree
-module _ {words places table marks : List ℕ} {r : ℕ} (a : Asked words places table marks r) where
-  tree-of : (t : Tree (a .g) (a .g .start)) × TreeOf measure (a .g) r t
+module _ {words places table marks : List ℕ} {q : Request} (p : Requested words places table marks q) where
+  tree-of : (t : Tree (p .g) (p .g .start)) × TreeOf measure (p .g) (q .target) t
   tree-of =
-      let ok = in-bounds words (a .known .view .is) in
-      tree-of-exists measure (a .g) ok (a .accepted .trees) (a .accepted .reached) r (a .target .such .rule)
+      let ok = in-bounds words (p .known .view .is) in
+      tree-of-exists measure (p .g) ok (p .accepted .trees) (p .accepted .reached) (q .target) (p .target .such .rule)
 
-  wanted : Wanted words table marks (a .g) r (tree-of .0)
+  wanted : Wanted words table marks (p .g) (q .target) (tree-of .0)
   wanted = record {
-    grammar = a .known .view .is;
-    accepted = a .accepted;
-    tabled = a .known .tabled;
-    marked = a .marked;
-    target = a .target;
+    grammar = p .known .view .is;
+    accepted = p .accepted;
+    tabled = p .known .tabled;
+    marked = p .marked;
+    target = p .target;
     tree = tree-of .1;
   }
 
-  words-are : words ≡ W.words (a .g)
-  words-are = layout-exact words (a .g) .0 (a .known .view .is) .1
-
-  -- n and the start were read from the words, and the total from the table
-  pub requested : {n start total : ℕ} → n ≡ getD words 0 0 → start ≡ getD words 2 0 → total ≡ getD table (5 * n + r) 0 →
-      Requested words places table marks (record { n = n; start = start; target = r; total = total })
-  requested w s t = record {
-    asked = a;
-    nonterminals = w ∙ ap (λ (x : List ℕ). getD x 0 0) words-are;
-    starts-at = s ∙ ap (λ (x : List ℕ). getD x 2 0) words-are;
-    total = t;
-  }
-
-  -- its total stands where the code reads it
-  pub total-index : {n : ℕ} → n ≡ getD words 0 0 → 5 * n + r < 1000
-  total-index w =
-      let ok = in-bounds words (a .known .view .is) in
-      let at-first = ap (λ (x : List ℕ). getD x 0 0) words-are in
-      omega (arith, a .target .such .rule, ok .at-most-256, ok .nonterminals, at-first)
-
-module _ {words places table marks : List ℕ} {q : Request} (p : Requested words places table marks q) where
-  known-so : Known words places table (q .n) (p .asked .g)
-  known-so = rw (p .nonterminals) (p .asked .known)
-
   pub ready : TreeReady words places table (q .n) (q .start) (q .target)
   ready = record {
-    g = p .asked .g;
-    known = known-so;
+    g = p .g;
+    known = p .known;
     starts-at = p .starts-at;
-    accepted = p .asked .accepted;
-    number = p .asked .target .such .rule;
+    accepted = p .accepted;
+    number = p .target .such .rule;
   }
 
--- there is room for the tree where there is as much as the table's total says, or as was counted
-module _ {words table places : List ℕ} {n start r : ℕ} where
-  pub fits-total : {total : ℕ} (tokens rules : List ℕ) → total ≡ getD table (5 * n + r) 0 → total ≤ length tokens →
-      total ≤ length rules → TreeFits words places table n start r tokens rules
-  fits-total tokens rules e l m = λ g known s t tree.
-      let below = rule-number (tree .rule) in
-      let is = total-unique (tree-of-total measure tree) (known .tabled .totals r below) in
-      let stands = total-front g table r below in
-      let same = ap (λ (k : ℕ). getD table (5 * k + r) 0) (known .view .nonterminals) in
-      let size = size-is-length t in
+  -- there is room for the tree where there is as much as the table's total says, or as was counted
+  pub fits-total : (tokens rules : List ℕ) → (q .total ≤ length tokens) × (q .total ≤ length rules) →
+      TreeFits words places table (q .n) (q .start) (q .target) tokens rules
+  fits-total tokens rules (l, m) = λ g known s t tree.
+      let within = tree-within known tree in
+      let is = p .total in
       (omega arith, omega arith)
 
-  pub fits-counted : {so : Lengths} (tokens rules : List ℕ) → TreeCounted words places table n start r so →
-      so .tokens ≤ length tokens → so .rules ≤ length rules → TreeFits words places table n start r tokens rules
-  fits-counted tokens rules counts l m = λ g known s t tree.
-      let d = counts g known s t tree .0 in
-      let e = counts g known s t tree .1 in
-      (omega arith, omega arith)
-
--- and where there is, there is for the numbers that are marked
-pub numbers-within : {words places table marks : List ℕ} {q : Request} {so : Lengths} → Requested words places table marks q →
-    TreeCounted words places table (q .n) (q .start) (q .target) so → (tokens rules : List ℕ) →
-    TreeFits words places table (q .n) (q .start) (q .target) tokens rules → so .rules ≤ length rules
-numbers-within p counts tokens rules fits =
-    let tree = tree-of (p .asked) in
-    let e = counts (p .asked .g) (known-so p) (p .starts-at) (tree .0) (tree .1) .1 in
-    omega (arith, fits (p .asked .g) (known-so p) (p .starts-at) (tree .0) (tree .1) .1)
+pub fits-counted : {words places table : List ℕ} {n start r : ℕ} {so : Lengths} (tokens rules : List ℕ) →
+    TreeCounted words places table n start r so → so .tokens ≤ length tokens → so .rules ≤ length rules →
+    TreeFits words places table n start r tokens rules
+fits-counted tokens rules counts l m = λ g known s t tree.
+    let d = counts g known s t tree .0 in
+    let e = counts g known s t tree .1 in
+    (omega arith, omega arith)
 
 -- 3, 10, or the sentence
 module _ {words places table : List ℕ} {q : Request} (before : Lent) (p : Requested words places table (before .marks) q) where
-  abbrev tree : Tree (p .asked .g) (p .asked .g .start)
-  tree = tree-of (p .asked) .0
+  abbrev tree : Tree (p .g) (p .g .start)
+  tree = tree-of p .0
 
   module _ {so : Lengths} (counts : TreeCounted words places table (q .n) (q .start) (q .target) so) where
     counted : (so .tokens ≡ length (sentence tree)) × (so .rules ≡ length (derivation tree))
-    counted = counts (p .asked .g) (known-so p) (p .starts-at) tree (tree-of (p .asked) .1)
+    counted = counts (p .g) (p .known) (p .starts-at) tree (tree-of p .1)
 
     pub refuses-3 : length (before .tokens) < so .tokens → NextPromise words table before (Refused 3 (so .tokens)) before
-    refuses-3 l = let e = counted .0 in rw e (row-3 (wanted (p .asked)) (omega arith))
+    refuses-3 l = let e = counted .0 in rw e (row-3 (wanted p) (omega arith))
 
     pub refuses-10 : so .tokens ≤ length (before .tokens) → length (before .rules) < so .rules →
         NextPromise words table before (Refused 10 (so .rules)) before
-    refuses-10 l m =
-        let d = counted .0 in let e = counted .1 in rw e (row-10 (wanted (p .asked)) (omega arith) (omega arith))
+    refuses-10 l m = let d = counted .0 in let e = counted .1 in rw e (row-10 (wanted p) (omega arith) (omega arith))
 
   -- what was written, and marked
-  module _ {tokens rules : List ℕ} {so : Lengths} (fits : TreeFits words places table (q .n) (q .start) (q .target) (before .tokens) (before .rules))
-      (writes : TreeWritten words places table (q .n) (q .start) (q .target) (before .tokens) tokens (before .rules) rules so) where
+  module _ {tokens rules : List ℕ} {so : Lengths}
+      (fits : TreeFits words places table (q .n) (q .start) (q .target) (before .tokens) (before .rules))
+      (writes : TreeListed words places table (q .n) (q .start) (q .target) (before .tokens) tokens (before .rules) rules so) where
     wrote : Wrote (sentence tree) (derivation tree) (before .tokens) tokens (before .rules) rules none-so-far so
-    wrote = writes (p .asked .g) (known-so p) (p .starts-at) tree (tree-of (p .asked) .1)
+    wrote = writes (p .g) (p .known) (p .starts-at) tree (tree-of p .1)
 
     room : (length (sentence tree) ≤ length (before .tokens)) × (length (derivation tree) ≤ length (before .rules))
-    room = fits (p .asked .g) (known-so p) (p .starts-at) tree (tree-of (p .asked) .1)
+    room = fits (p .g) (p .known) (p .starts-at) tree (tree-of p .1)
 
     pub hands-out : {marks : List ℕ} → Marked (take (so .rules) rules) (before .marks) marks →
         NextPromise words table before (Next (q .target) (so .tokens) (so .rules))
@@ -213,6 +208,9 @@ module _ {words places table : List ℕ} {q : Request} (before : Lent) (p : Requ
         let e : so .rules ≡ length ks = omega arith in
         let t : tokens ≡ over (sentence tree) (before .tokens) = wrote .sentence ∙ at-front _ (before .tokens) (room .0) in
         let u : rules ≡ over ks (before .rules) = wrote .derivation ∙ at-front _ (before .rules) (room .1) in
-        let v : Marked (take (length ks) (over ks (before .rules))) (before .marks) marks = rw (← u, ← e) marked in
-        let j = marked-written ks (before .rules) v in
-        rw (t, u, d, e) (next (wanted (p .asked)) (room .0) (room .1) j)
+        let j : Marked ks (before .marks) marks = rw (ap (λ (l : List ℕ). take (so .rules) l) u ∙ in-front e) at marked in
+        rw (t, u, d, e) (row-next (wanted p) (room .0) (room .1) j)
+      where
+        in-front : so .rules ≡ length (derivation tree) →
+            take (so .rules) (over (derivation tree) (before .rules)) ≡ derivation tree
+        in-front e = rw e (written (derivation tree) (before .rules) (room .1) .front)

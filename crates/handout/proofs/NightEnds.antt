@@ -12,11 +12,12 @@ use Rattle.grammar.specs.Tree.{sentence, derivation}
 use Rattle.grammar.specs.Refusals.{Lowest, Accepted}
 use Rattle.grammar.specs.Terms.{limit}
 use Rattle.entries.specs.Table.{HasTable}
-use Rattle.handout.specs.Next.{NextPromise, Unused, AllUsed, Lent, finished, next}
+use Rattle.marks.proofs.Main.{marks-met}
+use Rattle.handout.specs.Next.{NextPromise, Unused, AllUsed, Lent, row-finished, row-next}
 use Rattle.handout.specs.Night.{Handout, Night, clear, later, Over, Enough, GoesOn}
 use Rattle.handout.specs.declared.NextAnswer.{NextAnswer}
 use Rattle.handout.specs.declared.NextAnswer.the-variants.{Next, Finished}
-use Rattle.handout.proofs.MarksSettled.{marks-exist, unused?}
+use Rattle.handout.proofs.Targets.{unused?}
 use Rattle.handout.proofs.NextSettles.{next-settles}
 use Rattle.handout.proofs.NextMet.{wanted-exists, next-met}
 use Rattle.handout.proofs.NextExact.{next-writes}
@@ -35,14 +36,14 @@ module _ (words table : List ℕ) {g : Grammar} (e : layout words ≡ reads g) (
     where
       go : AllUsed g (before .marks) ⊎ ((r : ℕ) × Lowest (Unused g (before .marks)) r) →
           (o : NextAnswer) × (after : Lent) × NextPromise words table before o after × GoesOn o
-      go (inl u) = (Finished, before, finished e a h (enough .marks) u, inl refl)
+      go (inl u) = (Finished, before, row-finished e a h (enough .marks) u, inl refl)
       go (inr (r, low)) =
           let (t, w) = wanted-exists e a h (enough .marks) low in
           let limit = tree-of-limit a (low .such .rule) (w .tree) in
-          let marked = marks-exist (derivation t) (before .marks) .1 in (
+          let marked = marks-met (derivation t) (before .marks) .1 in (
             Next r (length (sentence t)) (length (derivation t)),
             _,
-            next w (omega (arith, enough .tokens)) (omega (arith, enough .rules)) marked,
+            row-next w (omega (arith, enough .tokens)) (omega (arith, enough .rules)) marked,
             inr (r, _, _, refl),
           )
 

@@ -19,11 +19,11 @@ use Rattle.grammar.proofs.SizeIsLength.{size-is-length}
 use Rattle.grammar.proofs.Unique.{total-unique}
 use Rattle.grammar.proofs.Totals.{total-smallest, tree-of-total, tree-of-uses}
 use Rattle.grammar.proofs.LayoutExact.{reads-unique}
+use Rattle.marks.proofs.MarksSettle.{ToSet, mark-cases}
 use Rattle.handout.specs.Next.{NextPromise, AllUnused, Lent}
 use Rattle.handout.specs.Given.{Handed}
 use Rattle.handout.specs.Night.{Handout, handout, Night, clear, later, UsedIn, Proper, AllProper, none-yet, and-then}
 use Rattle.handout.specs.declared.NextAnswer.the-variants.{Next}
-use Rattle.handout.proofs.MarksSettled.{ToSet, mark-cases}
 use Rattle.handout.proofs.NextExact.{next-writes}
 
 -- the tree of a rule of an accepted grammar keeps within the limit
@@ -44,7 +44,7 @@ module _ {words table : List ℕ} {before after : Lent} {r n m : ℕ} {g : Gramm
   lists = h .rules .front
 
   tells-next : Tells g (handout r (take n (after .tokens)) (take m (after .rules)) ∷ hs) (after .marks)
-  tells-next i l = go (mark-cases (h .marks) i (omega (arith, h .wanted .marked)))
+  tells-next i l = go (mark-cases (derivation (h .t)) (before .marks) i (h .marks) (omega (arith, h .wanted .marked)))
     where
       go : (ToSet (derivation (h .t)) (before .marks) i × (getD (after .marks) i 0 ≡ 1)) ⊎
           ((¬ ToSet (derivation (h .t)) (before .marks) i) × (getD (after .marks) i 0 ≡ getD (before .marks) i 0)) →

@@ -1,22 +1,17 @@
--- The listing of a tree put at an open leaf: what lies before the leaf, the tree's, what lies after the leaf. And the sizes that
--- the table gives to symbols are the lengths of their listings. Assumes nothing.
-use Prim.Native.Nat.{ℕ, suc, _+_, _≤_, _<_}
+-- The listing of a tree put at an open leaf: what lies before the leaf, the tree's, what lies after the leaf. Assumes nothing.
+use Prim.Native.Nat.{ℕ, suc, _+_, _<_}
 use native.Mathlib.Omega.{arith}
-use mathlib.Core.List.{List, [], _∷_, _++_, append-assoc, append-nil}
+use mathlib.Core.List.{List, _∷_, _++_, append-assoc, append-nil}
 use mathlib.Core.Path.{_≡_, refl, ap, sym, _∙_}
-use lib.ListN.{length, take, drop, length-append}
+use lib.ListN.{length, take, drop}
 use Rattle.grammar.specs.Words.{Grammar}
-use Rattle.grammar.specs.Tree.{Tree, Forest, node, nil, leaf, child, Gap, here, past-leaf, past-child, Open, root, down}
+use Rattle.grammar.specs.Tree.{Tree, node, nil, leaf, child, Gap, here, past-leaf, past-child, Open, root, down}
 use Rattle.grammar.specs.Tree.{fill, plug, sentence, sentences, derivation, derivations}
 use Rattle.grammar.specs.Terms.{measure}
-use Rattle.grammar.specs.Least.{ChosenTree, ChosenForest, ChosenGap}
+use Rattle.grammar.specs.Least.{ChosenGap}
 use Rattle.grammar.proofs.SameListing.{same-forest}
-use Rattle.grammar.proofs.Unique.{chosen-unique}
-use Rattle.entries.specs.Table.{chosenIn}
-use Rattle.layout.proofs.RulesInView.{viewed-right}
-use Rattle.handout.specs.Listing.{Known, sizeBy, sizesBy, SymbolsListed}
+use Rattle.handout.specs.Listing.{SymbolsListing}
 use Rattle.handout.specs.TreeListing.{before, after, gapTokens, gapRules, tokensOn, rulesOn}
-use Rattle.handout.proofs.Listings.{known-chosen, chosen-rule, terminal-size}
 
 -- two layers around something are one
 around : (a b c d e : List ℕ) → a ++ ((b ++ (c ++ d)) ++ e) ≡ (a ++ b) ++ (c ++ (d ++ e))
@@ -56,7 +51,7 @@ module _ {g : Grammar} where
 
   -- the symbols before and after an open leaf, opened by chosen rules, are listed as what lies there
   pub before-listed : {w : List ℕ} {i A : ℕ} (a : Gap g w i A) → ChosenGap measure g a →
-      SymbolsListed g (take i w) (gapTokens before a) (gapRules before a)
+      SymbolsListing g (take i w) (gapTokens before a) (gapRules before a)
   before-listed (here p f) h = record { forest = nil; chosen = tt; tokens = refl; rules = refl }
   before-listed (past-leaf {s} p a) h =
       let m = before-listed a h in
@@ -71,7 +66,7 @@ module _ {g : Grammar} where
       }
 
   pub after-listed : {w : List ℕ} {i A : ℕ} (a : Gap g w i A) → ChosenGap measure g a →
-      SymbolsListed g (drop (suc i) w) (gapTokens after a) (gapRules after a)
+      SymbolsListing g (drop (suc i) w) (gapTokens after a) (gapRules after a)
   after-listed (here p f) h = record { forest = f; chosen = h; tokens = refl; rules = refl }
   after-listed (past-leaf p a) h = after-listed a h
   after-listed (past-child t a) h = after-listed a (h .1)
@@ -83,33 +78,7 @@ module _ {g : Grammar} where
   gap-within (past-child t a) = omega (arith, gap-within a)
 
   -- symbols are listed in one way
-  pub listed-same : {w us vs us′ vs′ : List ℕ} → SymbolsListed g w us vs → SymbolsListed g w us′ vs′ → (us ≡ us′) × (vs ≡ vs′)
+  pub listed-same : {w us vs us′ vs′ : List ℕ} → SymbolsListing g w us vs → SymbolsListing g w us′ vs′ → (us ≡ us′) × (vs ≡ vs′)
   listed-same h k =
       let same = same-forest measure (h .forest) refl (k .forest) (h .chosen) (k .chosen) in
       (h .tokens ∙ same .sentences-same ∙ sym (k .tokens), h .rules ∙ same .derivations-same ∙ sym (k .rules))
-
-module _ {words places table : List ℕ} {n : ℕ} {g : Grammar} (known : Known words places table n g) where
-  mutual
-    unfolding sizesBy
-
-    -- the size of symbols is the length of their listing
-    tree-size : {s : ℕ} (t : Tree g s) → ChosenTree measure g t → sizeBy n table s ≡ length (sentence t) + length (derivation t)
-    tree-size (node {A} {w} k r f) h =
-        let lt : A < n = omega (arith, r .left, known .view .nonterminals) in
-        let e : k ≡ chosenIn table A = chosen-unique (h .0) (known-chosen known A (r .left)) in
-        let right = ap (sizesBy n table) (viewed-right (known .view) r) in
-        omega (arith, chosen-rule known A k lt e .size, forest-size f (h .1), right)
-
-    forest-size : {w : List ℕ} (f : Forest g w) → ChosenForest measure g f →
-        sizesBy n table w ≡ length (sentences f) + length (derivations f)
-    forest-size nil h = refl
-    forest-size (leaf {s} p f) h =
-        let le : n ≤ s = omega (arith, known .view .nonterminals) in
-        omega (arith, terminal-size n table s le, forest-size f h)
-    forest-size (child t f) h =
-        let us = length-append (sentence t) (sentences f) in
-        let vs = length-append (derivation t) (derivations f) in
-        omega (arith, tree-size t (h .0), forest-size f (h .1), us, vs)
-
-  pub listed-size : {w us vs : List ℕ} → SymbolsListed g w us vs → sizesBy n table w ≡ length us + length vs
-  listed-size h = omega (arith, forest-size (h .forest) (h .chosen), ap length (h .tokens), ap length (h .rules))

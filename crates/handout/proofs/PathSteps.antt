@@ -1,5 +1,5 @@
--- The way from a nonterminal up to the start, by context choices: noting it ends, as contexts fall, and its steps are fewer than the
--- nonterminals; and what lies before and after the first nonterminal is what lies beside the noted ones, step by step.
+-- The way from a nonterminal up to the start, by context choices: the climb ends, as contexts fall, and its steps are fewer than
+-- the nonterminals; and what lies before and after the first nonterminal is what lies beside those on the path, step by step.
 -- Assumes nothing.
 use Prim.Native.Nat.{ℕ, zero, suc, _+_, _-_, _≤_, _<_}
 use native.Mathlib.Decide.{decLt}
@@ -16,32 +16,33 @@ use Rattle.grammar.specs.Least.{ChosenOpen}
 use Rattle.grammar.proofs.RuleNumbers.{rule-number}
 use Rattle.entries.specs.Table.{contextIn, ruleIn, placeIn}
 use Rattle.handout.specs.declared.lister.Lengths.{Lengths}
-use Rattle.handout.specs.Listing.{Known, SymbolsWritten}
-use Rattle.handout.specs.TreeListing.{FrontReady, BackReady, backOf, FrontWritten, upper, climbed, PathOf, before, after}
-use Rattle.handout.specs.TreeListing.{SideReady, SideWritten, ClimbReady}
+use Rattle.handout.specs.Listing.{TableView, SymbolsListed}
+use Rattle.handout.specs.TreeListing.{FrontReady, BackReady, backOf, FrontListed, upper, climbed, PathOf, before, after}
+use Rattle.handout.specs.TreeListing.{SideReady, SideListed, ClimbReady}
 use Rattle.handout.proofs.FewContexts.{lower, lower-falls, lower-within}
-use Rattle.handout.proofs.TreeListerSteps.{Up, up, open-nonterminal, start-written, before-ready, front-ready, before-written}
+use Rattle.handout.proofs.TreeListerSteps.{Up, up, open-nonterminal, start-written, before-ready, front-ready}
+use Rattle.handout.proofs.TreeListerSteps.{before-written}
 use Rattle.handout.proofs.TreeListerSteps.{back-ready, after-ready, after-written}
 
 -- the context choices lead on from a, so many steps up from A, and by as many fewer contexts are lower
-pub record Reached (table : List ℕ) (n : ℕ) (g : Grammar) (A steps a : ℕ) : Type 0 where
+pub record LedUp (table : List ℕ) (n : ℕ) (g : Grammar) (A steps a : ℕ) : Type 0 where
   pub above : Open g a
   pub follows : ChosenOpen measure g above
   pub fallen : steps + lower table n (contextIn table a) ≤ lower table n (contextIn table A)
 
--- what noting them keeps: a is so many steps up from A, and those below it are noted
+-- what the climb keeps: a is so many steps up from A, and those below it stand on the path
 pub record OnWay (words places table : List ℕ) (start A : ℕ) (path : List ℕ) (a steps : ℕ) : Type 0 where
   pub here : a ≡ climbed words places table A steps
-  pub noted : (i : ℕ) → i < steps → getD path i 0 ≡ climbed words places table A i
+  pub each : (i : ℕ) → i < steps → getD path i 0 ≡ climbed words places table A i
   pub other : (i : ℕ) → i < steps → ¬ (climbed words places table A i ≡ start)
-  pub leads : (n : ℕ) (g : Grammar) → Known words places table n g → start ≡ g .start → (x : Open g A) →
-      ChosenOpen measure g x → Reached table n g A steps a
+  pub leads : (n : ℕ) (g : Grammar) → TableView words places table n g → start ≡ g .start → (x : Open g A) →
+      ChosenOpen measure g x → LedUp table n g A steps a
 
 pub way-begins : (words places table : List ℕ) (start A : ℕ) (path : List ℕ) → OnWay words places table start A path A 0
 unfolding climbed
 way-begins words places table start A path = record {
   here = refl;
-  noted = λ i l. absurd (omega arith);
+  each = λ i l. absurd (omega arith);
   other = λ i l. absurd (omega arith);
   leads = λ n g known s x h. record { above = x; follows = h; fallen = omega arith };
 }
@@ -54,19 +55,20 @@ module _ {words places table : List ℕ} {start A : ℕ} {path : List ℕ} {a st
   unfolding climbed
   way-on {path′} {b} d l p e = record {
     here = rw (add-one steps) (e ∙ ap (upper words places table) (way .here));
-    noted = λ i m. noted i m (decLt i steps);
+    each = λ i m. each i m (decLt i steps);
     other = λ i m. other i m (decLt i steps);
     leads = λ n g known s x h.
         let so = way .leads n g known s x h in
         let u = up known (so .above) (so .follows) (λ q. d (q ∙ sym s)) _ _ b refl refl e in
         let low : b < n = omega (arith, open-nonterminal known (u .above), known .view .nonterminals) in
-        record { above = u .above; follows = u .follows; fallen = omega (arith, so .fallen, lower-falls table n b _ low (u .falls)) };
+        let less = lower-falls table n b _ low (u .falls) in
+        record { above = u .above; follows = u .follows; fallen = omega (arith, so .fallen, less) };
   }
     where
-      noted : (i : ℕ) → i < steps + 1 → Dec (i < steps) → getD path′ i 0 ≡ climbed words places table A i
-      noted i m (yes k) =
-          ap (λ (t : List ℕ). getD t i 0) p ∙ getD-set-other path steps i a 0 (λ q. omega arith) ∙ way .noted i k
-      noted i m (no k) =
+      each : (i : ℕ) → i < steps + 1 → Dec (i < steps) → getD path′ i 0 ≡ climbed words places table A i
+      each i m (yes k) =
+          ap (λ (t : List ℕ). getD t i 0) p ∙ getD-set-other path steps i a 0 (λ q. omega arith) ∙ way .each i k
+      each i m (no k) =
           let same : i ≡ steps = omega arith in
           rw same (ap (λ (t : List ℕ). getD t steps 0) p ∙ getD-set-same path steps a 0 l ∙ way .here)
 
@@ -77,7 +79,7 @@ module _ {words places table : List ℕ} {start A : ℕ} {path : List ℕ} {a st
           λ q. d (way .here ∙ ap (climbed words places table A) (sym same) ∙ q)
 
   module _ {path₀ : List ℕ} (ready : ClimbReady words places table start A path₀) where
-    so-far : Reached table (ready .n) (ready .g) A steps a
+    so-far : LedUp table (ready .n) (ready .g) A steps a
     so-far = way .leads (ready .n) (ready .g) (ready .known) (ready .starts-at) (ready .above) (ready .follows)
 
     few-steps : steps < ready .n
@@ -89,7 +91,7 @@ module _ {words places table : List ℕ} {start A : ℕ} {path : List ℕ} {a st
     pub way-ends : a ≡ start → length path ≡ length path₀ → PathOf words places table start A path steps
     way-ends e l = record {
       short = omega (arith, few-steps, ready .long);
-      noted = way .noted;
+      each = way .each;
       other = way .other;
       ends = sym (way .here) ∙ e;
     }
@@ -110,7 +112,7 @@ module _ {words places table : List ℕ} {start A : ℕ} {path : List ℕ} {a st
       pub way-falls : contextIn table (upper words places table a) < contextIn table a
       way-falls = above .falls
 
--- over a path that is noted
+-- over a path
 module _ {words places table : List ℕ} {n start A steps : ℕ} {path : List ℕ} (way : PathOf words places table start A path steps)
   where
     -- what lies before each can be listed
@@ -123,33 +125,33 @@ module _ {words places table : List ℕ} {n start A steps : ℕ} {path : List �
     -- down: where what is before one is written, what is beside the next can be, and then what is before that is written
     pub front-at : {p q : Lengths} {b : ℕ} {s t x y : List ℕ} → SideReady before words places table n start A p →
         (i : ℕ) → 0 < i → i ≤ steps → b ≡ getD path (i - 1) 0 →
-        SideWritten before words places table n start (climbed words places table A i) s t x y p q →
+        SideListed before words places table n start (climbed words places table A i) s t x y p q →
         FrontReady words places table n b q
     unfolding climbed
     front-at ready zero h l e above = absurd (omega arith)
     front-at ready (suc i) h l e above =
         let back : suc i - 1 ≡ i = omega arith in
-        let same = e ∙ ap (λ (j : ℕ). getD path j 0) back ∙ way .noted i l in
+        let same = e ∙ ap (λ (j : ℕ). getD path j 0) back ∙ way .each i l in
         rw same (front-ready (before-at ready i (omega arith)) (way .other i l) above)
 
     pub before-goes-on : {p q r : Lengths} {b : ℕ} {s t u x y z : List ℕ} (i : ℕ) → 0 < i → i ≤ steps → b ≡ getD path (i - 1) 0 →
-        SideWritten before words places table n start (climbed words places table A i) s t x y p q →
-        FrontWritten words places table n b t u y z q r →
-        SideWritten before words places table n start (climbed words places table A (i - 1)) s u x z p r
+        SideListed before words places table n start (climbed words places table A i) s t x y p q →
+        FrontListed words places table n b t u y z q r →
+        SideListed before words places table n start (climbed words places table A (i - 1)) s u x z p r
     unfolding climbed
     before-goes-on zero h l e above front = absurd (omega arith)
     before-goes-on (suc i) h l e above front =
         let back : suc i - 1 ≡ i = omega arith in
-        let same = e ∙ ap (λ (j : ℕ). getD path j 0) back ∙ way .noted i l in
+        let same = e ∙ ap (λ (j : ℕ). getD path j 0) back ∙ way .each i l in
         rw back (before-written (way .other i l) above (rw same at front))
 
     pub before-begins : {p : Lengths} {s x : List ℕ} →
-        SideWritten before words places table n start (climbed words places table A steps) s s x x p p
+        SideListed before words places table n start (climbed words places table A steps) s s x x p p
     before-begins = start-written before (way .ends)
 
     pub before-ends : {p q : Lengths} {i : ℕ} {s t x y : List ℕ} → i ≡ 0 →
-        SideWritten before words places table n start (climbed words places table A i) s t x y p q →
-        SideWritten before words places table n start A s t x y p q
+        SideListed before words places table n start (climbed words places table A i) s t x y p q →
+        SideListed before words places table n start A s t x y p q
     unfolding climbed
     before-ends e h = rw e at h
 
@@ -158,8 +160,8 @@ pub record AfterSo (words places table : List ℕ) (n start A : ℕ) (a b x y : 
   pub ready : SideReady after words places table n start A p →
       SideReady after words places table n start (climbed words places table A i) q
   pub goes-on : (c v : List ℕ) (r : Lengths) →
-      SideWritten after words places table n start (climbed words places table A i) b c y v q r →
-      SideWritten after words places table n start A a c x v p r
+      SideListed after words places table n start (climbed words places table A i) b c y v q r →
+      SideListed after words places table n start A a c x v p r
 
 pub after-begins : (words places table : List ℕ) (n start A : ℕ) (a x : List ℕ) (p : Lengths) →
     AfterSo words places table n start A a a x x p p 0
@@ -170,20 +172,20 @@ module _ {words places table : List ℕ} {n start A steps : ℕ} {path : List �
     {a b x y : List ℕ} {p q : Lengths} {i : ℕ} (so : AfterSo words places table n start A a b x y p q i) where
   pub back-at : {b′ : ℕ} → SideReady after words places table n start A p → i < steps → b′ ≡ getD path i 0 →
       BackReady words places table n b′ q
-  back-at ready l e = rw (e ∙ way .noted i l) (back-ready (so .ready ready) (way .other i l))
+  back-at ready l e = rw (e ∙ way .each i l) (back-ready (so .ready ready) (way .other i l))
 
   pub after-goes-on : {b′ : ℕ} {d w : List ℕ} {r : Lengths} → i < steps → b′ ≡ getD path i 0 →
-      SymbolsWritten words places table n (backOf words places table b′) b d y w q r →
+      SymbolsListed words places table n (backOf words places table b′) b d y w q r →
       AfterSo words places table n start A a d x w p r (i + 1)
   unfolding climbed
   after-goes-on {d = d} {w = w} {r = r} l e back =
-      let here : SymbolsWritten words places table n (backOf words places table (climbed words places table A i)) b d y w q r =
-      rw (e ∙ way .noted i l) at back in
+      let here : SymbolsListed words places table n (backOf words places table (climbed words places table A i)) b d y w q r =
+      rw (e ∙ way .each i l) at back in
       rw (add-one i) (record {
         ready = λ h. after-ready (so .ready h) (way .other i l) here;
         goes-on = λ c v s above. so .goes-on c v s (after-written (way .other i l) here above);
       })
 
-  pub after-ends : i ≡ steps → SideWritten after words places table n start A a b x y p q
+  pub after-ends : i ≡ steps → SideListed after words places table n start A a b x y p q
   after-ends e =
       so .goes-on b y q (start-written after (ap (climbed words places table A) e ∙ way .ends))

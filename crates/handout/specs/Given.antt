@@ -1,21 +1,22 @@
--- When `next` gives each of its answers, and what it then says of the buffers: document 01's table of refusals, "Given exactly when", and
--- its sentences on Finished and on what is written. The laws of proofs/NextExact say that the promise comes to this. Assumes nothing.
+-- When `next` gives each of its answers, and what it then says of the buffers: document 01's table of refusals, "Given exactly
+-- when", and its sentences on Finished and on what is written. The laws of proofs/NextExact say that the promise comes to this.
+-- Assumes nothing.
 use Prim.Native.Nat.{ℕ, _≤_, _<_}
 use mathlib.Core.Path.{_≡_}
 use mathlib.Core.Logic.{_⊎_}
 use mathlib.Core.List.{List}
 use lib.ListN.{length}
-use Rattle.answers.specs.Refusals.{Refusal, not-version-one, bad-length, too-many-words, too-short, broken-layout, no-tree}
-use Rattle.answers.specs.Refusals.{unreached, oversize, not-its-table, few-marks, derivation-short, no-derivation, long-list}
+use Rattle.answers.specs.GrammarRefusals.{no-tree, unreached}
 use Rattle.answers.specs.Buffers.{Written}
-use Rattle.grammar.specs.Words.{Grammar, R, layout, faults}
+use Rattle.grammar.specs.Words.{Grammar, R, Are}
 use Rattle.grammar.specs.Tree.{Tree, sentence, derivation}
-use Rattle.grammar.specs.Refusals.{Lowest, NoTree, AllTrees, Unreached, AllReached, Oversize, Accepted}
-use Rattle.entries.specs.Table.{HasTable, Own}
-use Rattle.grammar.specs.Words.{Are}
+use Rattle.grammar.specs.Refusals.{Accepted}
+use Rattle.grammar.specs.Rows.{GrammarRefused}
 use Rattle.grammar.specs.Terms.{limit}
-use Rattle.tables.specs.Given.{Own}
-use Rattle.handout.specs.Next.{refused, AllUsed, Marked, Wanted, Lent}
+use Rattle.entries.specs.Table.{HasTable, Own}
+use Rattle.handout.specs.Answers.{Case, answer, next, finished, of-words, not-its-table, few-marks, too-short}
+use Rattle.handout.specs.Answers.{derivation-short}
+use Rattle.handout.specs.Next.{AllUsed, Marked, Wanted, Lent}
 use Rattle.handout.specs.declared.NextAnswer.{NextAnswer}
 
 module _ (words table : List ℕ) (before : Lent) where
@@ -27,32 +28,25 @@ module _ (words table : List ℕ) (before : Lent) where
     pub wanted : Wanted words table (before .marks) g r t
     pub holds : P r (sentence t) (derivation t)
 
-  -- "Given exactly when", of each refusal, as `next` gives it: 1, 2, 11 and 12 never
-  abbrev pub Given : Refusal → Type 0
-  Given (broken-layout p) = layout words ≡ faults p
-  Given (no-tree A) = Are words (λ g. Lowest (NoTree g) A)
-  Given (unreached A) = Are words (λ g. AllTrees g × Lowest (Unreached g) A)
-  Given (oversize r) = Are words (λ g. AllTrees g × AllReached g × Lowest (Oversize limit g) r)
-  Given not-its-table = Are words (λ g. Accepted limit g × ¬ HasTable g table)
-  Given (few-marks n) = Are words (λ g. Own table g × (n ≡ R g) × (length (before .marks) < n))
-  Given (too-short n) = Target (λ k s d. (n ≡ length s) × (length (before .tokens) < n))
-  Given (derivation-short n) =
-      Target (λ k s d. (length s ≤ length (before .tokens)) × (n ≡ length d) × (length (before .rules) < n))
-  Given not-version-one = ⊥
-  Given bad-length = ⊥
-  Given too-many-words = ⊥
-  Given (no-derivation p) = ⊥
-  Given long-list = ⊥
-
-  -- and of Finished
+  -- Finished, and Next r n m
   abbrev pub GivenFinished : Type 0
   GivenFinished = Are words (λ g. Own table g × (R g ≤ length (before .marks)) × AllUsed g (before .marks))
 
-  -- and of Next
   abbrev pub GivenNext : ℕ → ℕ → ℕ → Type 0
   GivenNext r n m =
       Target (λ k s d.
       (r ≡ k) × (n ≡ length s) × (m ≡ length d) × (n ≤ length (before .tokens)) × (m ≤ length (before .rules)))
+
+  -- "Given exactly when", of every answer
+  abbrev pub Given : Case → Type 0
+  Given (of-words x) = GrammarRefused limit words x
+  Given not-its-table = Are words (λ g. Accepted limit g × ¬ HasTable g table)
+  Given (few-marks n) = Are words (λ g. Own table g × (n ≡ R g) × (length (before .marks) < n))
+  Given finished = GivenFinished
+  Given (too-short n) = Target (λ k s d. (n ≡ length s) × (length (before .tokens) < n))
+  Given (derivation-short n) =
+      Target (λ k s d. (length s ≤ length (before .tokens)) × (n ≡ length d) × (length (before .rules) < n))
+  Given (next r n m) = GivenNext r n m
 
   -- what Next r n m says of the buffers: the sentence and the derivation in front, what lay behind them, and the marks set
   pub record Handed (after : Lent) (r n m : ℕ) (g : Grammar) : Type 0 where
@@ -64,4 +58,4 @@ module _ (words table : List ℕ) (before : Lent) where
 
 -- the answer is 5, or 6: "A grammar met by 5 or 6 is what demand 3 calls dead; tables and next both say so."
 abbrev pub SaysDead : NextAnswer → Type 0
-SaysDead a = (A : ℕ) × ((a ≡ refused (no-tree A)) ⊎ (a ≡ refused (unreached A)))
+SaysDead a = (A : ℕ) × ((a ≡ answer (of-words (no-tree A))) ⊎ (a ≡ answer (of-words (unreached A))))

@@ -14,11 +14,11 @@ use Rattle.grammar.specs.Least.{ChosenOpen, TreeOf}
 use Rattle.grammar.specs.Refusals.{Accepted}
 use Rattle.entries.specs.Table.{ruleIn, placeIn}
 use Rattle.handout.specs.declared.lister.Lengths.{Lengths}
-use Rattle.handout.specs.Listing.{Known, sizesBy, rightOf, RuleListed, Wrote, Written}
+use Rattle.handout.specs.Listing.{TableView, sizesBy, rightOf, RuleListing, Wrote, PartListed}
 
 -- A is no start, and has a place in its context rule
 pub record Beside (words places table : List ℕ) (n A : ℕ) (g : Grammar) : Type 0 where
-  pub known : Known words places table n g
+  pub known : TableView words places table n g
   pub leaf : A < n
   pub number : ruleIn table A < R g
   pub place : placeIn table A < length (rightOf words places (ruleIn table A))
@@ -41,10 +41,10 @@ pub record BackReady (words places table : List ℕ) (n A : ℕ) (past : Lengths
   pub beside : Beside words places table n A g
   pub few : past .tokens + past .rules + sizesBy n table (backOf words places table A) ≤ limit
 
--- the number and the symbols before the place are written
-abbrev pub FrontWritten : List ℕ → List ℕ → List ℕ → ℕ → ℕ → List ℕ → List ℕ → List ℕ → List ℕ → Lengths → Lengths → Type 0
-FrontWritten words places table n A tokens tokens′ rules rules′ past so =
-    Written words places table n (λ g. RuleListed g (ruleIn table A) (frontOf words places table A))
+-- the number and the symbols before the place are listed
+abbrev pub FrontListed : List ℕ → List ℕ → List ℕ → ℕ → ℕ → List ℕ → List ℕ → List ℕ → List ℕ → Lengths → Lengths → Type 0
+FrontListed words places table n A tokens tokens′ rules rules′ past so =
+    PartListed words places table n (λ g. RuleListing g (ruleIn table A) (frontOf words places table A))
     (1 + sizesBy n table (frontOf words places table A)) tokens tokens′ rules rules′ past so
 
 -- the left side of A's context rule, and the nonterminal so many steps up
@@ -55,10 +55,10 @@ unfoldable pub climbed : List ℕ → List ℕ → List ℕ → ℕ → ℕ → 
 climbed words places table A zero = A
 climbed words places table A (suc i) = upper words places table (climbed words places table A i)
 
--- the path holds the nonterminals from A up to the start, which is so many steps up
+-- the path holds the nonterminals from A up to below the start, which is so many steps up
 pub record PathOf (words places table : List ℕ) (start A : ℕ) (path : List ℕ) (steps : ℕ) : Type 0 where
   pub short : steps ≤ length path
-  pub noted : (i : ℕ) → i < steps → getD path i 0 ≡ climbed words places table A i
+  pub each : (i : ℕ) → i < steps → getD path i 0 ≡ climbed words places table A i
   pub other : (i : ℕ) → i < steps → ¬ (climbed words places table A i ≡ start)
   pub ends : climbed words places table A steps ≡ start
 
@@ -97,51 +97,64 @@ module _ {g : Grammar} where
   rulesOn after root = []
   rulesOn after (down k r x a) = gapRules after a ++ rulesOn after x
 
+  -- its size by the table, which is no less than how many numbers are listed there
+  abbrev pub sizeOn : {A : ℕ} → ℕ → List ℕ → Side → Open g A → ℕ
+  sizeOn n table before root = 0
+  sizeOn n table before (down {i = i} {w = w} k r x a) = sizeOn n table before x + (1 + sizesBy n table (take i w))
+  sizeOn n table after root = 0
+  sizeOn n table after (down {i = i} {w = w} k r x a) = sizesBy n table (drop (suc i) w) + sizeOn n table after x
+
 -- the context choices lead from the start to A, and what lies on that side is little enough to count
 pub record SideReady (side : Side) (words places table : List ℕ) (n start A : ℕ) (past : Lengths) : Type 0 where
   pub g : Grammar
-  pub known : Known words places table n g
+  pub known : TableView words places table n g
   pub starts-at : start ≡ g .start
   pub above : Open g A
   pub follows : ChosenOpen measure g above
-  pub few : past .tokens + past .rules + (length (tokensOn side above) + length (rulesOn side above)) ≤ limit
+  pub few : past .tokens + past .rules + sizeOn n table side above ≤ limit
 
 -- they lead so far, and the path has room for as many as there are nonterminals
 pub record ClimbReady (words places table : List ℕ) (start A : ℕ) (path : List ℕ) : Type 0 where
   pub n : ℕ
   pub g : Grammar
-  pub known : Known words places table n g
+  pub known : TableView words places table n g
   pub starts-at : start ≡ g .start
   pub above : Open g A
   pub follows : ChosenOpen measure g above
   pub long : n ≤ length path
 
--- the path is noted, and what lies on that side of its lowest nonterminal can be listed
+-- the path is that of a nonterminal, and what lies on that side of it can be listed
 pub record WayReady (side : Side) (words places table : List ℕ) (n : ℕ) (path : List ℕ) (steps : ℕ) (past : Lengths) :
     Type 0 where
   pub start : ℕ
   pub A : ℕ
-  pub noted : PathOf words places table start A path steps
+  pub path-of : PathOf words places table start A path steps
   pub ready : SideReady side words places table n start A past
 
--- it is written, by whichever context choices
-abbrev pub SideWritten : Side → List ℕ → List ℕ → List ℕ → ℕ → ℕ → ℕ → List ℕ → List ℕ → List ℕ → List ℕ → Lengths → Lengths →
+-- what lies on that side of an open leaf is written, and the lengths grew by no more than its size
+pub record SideWrote {g : Grammar} {A : ℕ} (n : ℕ) (table : List ℕ) (side : Side) (above : Open g A)
+    (tokens tokens′ rules rules′ : List ℕ) (past so : Lengths) : Type 0 where
+  pub wrote : Wrote (tokensOn side above) (rulesOn side above) tokens tokens′ rules rules′ past so
+  pub counted : so .tokens + so .rules ≤ past .tokens + past .rules + sizeOn n table side above
+
+-- it is listed, by whichever context choices
+abbrev pub SideListed : Side → List ℕ → List ℕ → List ℕ → ℕ → ℕ → ℕ → List ℕ → List ℕ → List ℕ → List ℕ → Lengths → Lengths →
     Type 0
-SideWritten side words places table n start A tokens tokens′ rules rules′ past so =
-    (g : Grammar) → Known words places table n g → start ≡ g .start → (above : Open g A) → ChosenOpen measure g above →
-    Wrote (tokensOn side above) (rulesOn side above) tokens tokens′ rules rules′ past so
+SideListed side words places table n start A tokens tokens′ rules rules′ past so =
+    (g : Grammar) → TableView words places table n g → start ≡ g .start → (above : Open g A) → ChosenOpen measure g above →
+    SideWrote n table side above tokens tokens′ rules rules′ past so
 
 -- whichever nonterminal the path leads up from
-abbrev pub WayWritten : Side → List ℕ → List ℕ → List ℕ → ℕ → List ℕ → ℕ → List ℕ → List ℕ → List ℕ → List ℕ → Lengths → Lengths →
+abbrev pub WayListed : Side → List ℕ → List ℕ → List ℕ → ℕ → List ℕ → ℕ → List ℕ → List ℕ → List ℕ → List ℕ → Lengths → Lengths →
     Type 0
-WayWritten side words places table n path steps tokens tokens′ rules rules′ past so =
+WayListed side words places table n path steps tokens tokens′ rules rules′ past so =
     (start A : ℕ) → PathOf words places table start A path steps →
-    SideWritten side words places table n start A tokens tokens′ rules rules′ past so
+    SideListed side words places table n start A tokens tokens′ rules rules′ past so
 
 -- the tree of a rule can be listed, and is
 pub record TreeReady (words places table : List ℕ) (n start r : ℕ) : Type 0 where
   pub g : Grammar
-  pub known : Known words places table n g
+  pub known : TableView words places table n g
   pub starts-at : start ≡ g .start
   pub accepted : Accepted limit g
   pub number : r < R g
@@ -149,18 +162,18 @@ pub record TreeReady (words places table : List ℕ) (n start r : ℕ) : Type 0 
 abbrev pub none-so-far : Lengths
 none-so-far = record { tokens = 0; rules = 0 }
 
-abbrev pub TreeWritten : List ℕ → List ℕ → List ℕ → ℕ → ℕ → ℕ → List ℕ → List ℕ → List ℕ → List ℕ → Lengths → Type 0
-TreeWritten words places table n start r tokens tokens′ rules rules′ so =
-    (g : Grammar) → Known words places table n g → start ≡ g .start → (t : Tree g (g .start)) → TreeOf measure g r t →
+abbrev pub TreeListed : List ℕ → List ℕ → List ℕ → ℕ → ℕ → ℕ → List ℕ → List ℕ → List ℕ → List ℕ → Lengths → Type 0
+TreeListed words places table n start r tokens tokens′ rules rules′ so =
+    (g : Grammar) → TableView words places table n g → start ≡ g .start → (t : Tree g (g .start)) → TreeOf measure g r t →
     Wrote (sentence t) (derivation t) tokens tokens′ rules rules′ none-so-far so
 
 abbrev pub TreeCounted : List ℕ → List ℕ → List ℕ → ℕ → ℕ → ℕ → Lengths → Type 0
 TreeCounted words places table n start r so =
-    (g : Grammar) → Known words places table n g → start ≡ g .start → (t : Tree g (g .start)) → TreeOf measure g r t →
+    (g : Grammar) → TableView words places table n g → start ≡ g .start → (t : Tree g (g .start)) → TreeOf measure g r t →
     (so .tokens ≡ length (sentence t)) × (so .rules ≡ length (derivation t))
 
 -- there is room for it
 abbrev pub TreeFits : List ℕ → List ℕ → List ℕ → ℕ → ℕ → ℕ → List ℕ → List ℕ → Type 0
 TreeFits words places table n start r tokens rules =
-    (g : Grammar) → Known words places table n g → start ≡ g .start → (t : Tree g (g .start)) → TreeOf measure g r t →
+    (g : Grammar) → TableView words places table n g → start ≡ g .start → (t : Tree g (g .start)) → TreeOf measure g r t →
     (length (sentence t) ≤ length tokens) × (length (derivation t) ≤ length rules)

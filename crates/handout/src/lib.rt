@@ -1,12 +1,19 @@
-// Handing out sentences: `next`. What it promises is specs/Next, and when it gives each answer specs/Given; what calls of it come to from
-// clear marks on is specs/Night.
-mod handed;
+// Handing out sentences: `next`. What it promises is specs/Next, with its answers in specs/Answers, and when it gives each answer
+// specs/Given; what calls of it come to from clear marks on is specs/Night.
+mod answer;
 mod lister;
-mod marks;
 mod tree_lister;
 
 ghost use Rattle.handout.specs.Next.{Lent, NextPromise};
-use tables::TableTest;
+use cells::narrow;
+use table_test::TableTest;
+
+// The numbers of the refusals that only `next` gives.
+pub const NOT_ITS_TABLE: u16 = 8;
+
+pub const FEW_MARKS: u16 = 9;
+
+pub const DERIVATION_SHORT: u16 = 10;
 
 // What `next` answers: the target and both lengths written, or that no rule is unused, or the refusal's number and place.
 pub enum NextAnswer {
@@ -22,8 +29,8 @@ pub enum NextAnswer {
     },
 }
 
-// Hands out the sentence of the lowest unused rule and its derivation, into the fronts of sentence and derivation, and sets the marks
-// of the rules in the derivation.
+// Hands out the sentence of the lowest unused rule and its derivation, into the fronts of sentence and derivation, and sets the
+// marks of the rules in the derivation.
 pub fn next(
     words: &[u16],
     table: &[u16],
@@ -35,17 +42,19 @@ pub fn next(
         (record { marks = now (marks .entry); tokens = now (sentence .entry); rules = now (derivation .entry) }) r
         (record { marks = now (marks .exit); tokens = now (sentence .exit); rules = now (derivation .exit) }) ⌝ }
 {
-    let testing = tables::test(words, table);
-    let answer = testing.answer;
-    match answer {
-        TableTest::Refused { number, place } => NextAnswer::Refused { number, place },
-        TableTest::NotIts => NextAnswer::Refused {
-            number: answers::NOT_ITS_TABLE,
-            place: 0,
-        },
-        TableTest::Its { rules } => handed::with_table(
+    let testing = table_test::test(words, table);
+    let found = testing.answer;
+    match found {
+        TableTest::NotIts => answer::without_table(words),
+        TableTest::Its {
+            nonterminals,
+            start,
+            rules,
+        } => answer::with_table(
             words,
             &testing.places,
+            narrow(nonterminals),
+            narrow(start),
             rules,
             table,
             marks,

@@ -1,16 +1,16 @@
-// The tree lister: lists the tree of a rule. Context choices lead from the rule's left side up to the start; what lies before the rule
-// is listed from the start down, then the rule, then what lies after it from the rule up. The nonterminals on the way up are noted on a
-// path: contexts fall from each to the next, so that none comes twice.
-ghost use Rattle.handout.specs.Listing.{lengths, SymbolsWritten};
-ghost use Rattle.handout.specs.TreeListing.{ClimbReady, PathOf, FrontReady, BackReady, FrontWritten, backOf};
-ghost use Rattle.handout.specs.TreeListing.{before, after, WayReady, WayWritten, TreeReady, TreeWritten, none-so-far};
+// The tree lister: lists the tree of a rule. Context choices lead from the rule's left side up to the start; what lies before the
+// rule is listed from the start down, then the rule, then what lies after it from the rule up. The nonterminals on the way up are
+// noted on a path: contexts fall from each to the next, so that none comes twice.
+ghost use Rattle.handout.specs.Listing.{lengths, SymbolsListed};
+ghost use Rattle.handout.specs.TreeListing.{ClimbReady, PathOf, FrontReady, BackReady, FrontListed, backOf};
+ghost use Rattle.handout.specs.TreeListing.{before, after, WayReady, WayListed, TreeReady, TreeListed, none-so-far};
 use crate::lister::Lengths;
 use crate::lister::TOKEN;
 use crate::lister::list_rule;
 use crate::lister::list_symbols;
-use crate::lister::right_of;
 use cells::narrow;
 use cells::put;
+use cells::read;
 use cells::wide;
 use layout::rules;
 
@@ -19,8 +19,8 @@ const MOST_NONTERMINALS: usize = 128;
 
 // What is asked for: the sentence of the target, whose total this is; and of the grammar N and the start.
 pub struct Request {
-    pub n: usize,
-    pub start: usize,
+    pub n: u16,
+    pub start: u16,
     pub target: usize,
     pub total: usize,
 }
@@ -30,8 +30,8 @@ fn climb(
     words: &[u16],
     places: &[u16],
     table: &[u16],
-    start: usize,
-    from: usize,
+    start: u16,
+    from: u16,
     path: &mut [u16],
 ) -> usize
     requires { ⌜ ClimbReady (now words) (now places) (now table) start from (now path) ⌝ }
@@ -40,9 +40,9 @@ fn climb(
     let mut a = from;
     let mut steps = 0;
     while a != start {
-        path[steps] = narrow(a);
+        path[steps] = a;
         steps += 1;
-        a = wide(words[rules::index(places, wide(table[5 * a + 3]))]);
+        a = read(words, rules::index(places, wide(entries::rule(table, a))));
     }
     steps
 }
@@ -52,21 +52,21 @@ fn list_front(
     words: &[u16],
     places: &[u16],
     table: &[u16],
-    n: usize,
-    a: usize,
+    n: u16,
+    a: u16,
     past: usize,
     sentence: &mut [u16],
     derivation: &mut [u16],
 ) -> usize
     requires { ⌜ FrontReady (now words) (now places) (now table) n a (lengths past) ⌝ }
-    ensures { λ r. ⌜ FrontWritten (now (words .entry)) (now (places .entry)) (now (table .entry)) n a
+    ensures { λ r. ⌜ FrontListed (now (words .entry)) (now (places .entry)) (now (table .entry)) n a
         (now (sentence .entry)) (now (sentence .exit)) (now (derivation .entry)) (now (derivation .exit))
         (lengths past) (lengths r) ⌝ }
 {
-    let rule = table[5 * a + 3];
-    let place = wide(table[5 * a + 4]);
+    let rule = entries::rule(table, a);
+    let place = wide(entries::place(table, a));
     put(derivation, past % TOKEN, rule);
-    let symbols = right_of(words, places, rule);
+    let symbols = rules::right(words, rules::index(places, wide(rule)));
     list_symbols(
         words,
         places,
@@ -84,14 +84,14 @@ fn list_before(
     words: &[u16],
     places: &[u16],
     table: &[u16],
-    n: usize,
+    n: u16,
     path: &[u16],
     steps: usize,
     sentence: &mut [u16],
     derivation: &mut [u16],
 ) -> usize
     requires { ⌜ WayReady before (now words) (now places) (now table) n (now path) steps none-so-far ⌝ }
-    ensures { λ r. ⌜ WayWritten before (now (words .entry)) (now (places .entry)) (now (table .entry)) n (now (path .entry)) steps
+    ensures { λ r. ⌜ WayListed before (now (words .entry)) (now (places .entry)) (now (table .entry)) n (now (path .entry)) steps
         (now (sentence .entry)) (now (sentence .exit)) (now (derivation .entry)) (now (derivation .exit)) none-so-far
         (lengths r) ⌝ }
 {
@@ -99,16 +99,7 @@ fn list_before(
     let mut i = steps;
     while 0 < i {
         i -= 1;
-        so = list_front(
-            words,
-            places,
-            table,
-            n,
-            wide(path[i]),
-            so,
-            sentence,
-            derivation,
-        );
+        so = list_front(words, places, table, n, path[i], so, sentence, derivation);
     }
     so
 }
@@ -118,20 +109,20 @@ fn list_back(
     words: &[u16],
     places: &[u16],
     table: &[u16],
-    n: usize,
-    a: usize,
+    n: u16,
+    a: u16,
     past: usize,
     sentence: &mut [u16],
     derivation: &mut [u16],
 ) -> usize
     requires { ⌜ BackReady (now words) (now places) (now table) n a (lengths past) ⌝ }
-    ensures { λ r. ⌜ SymbolsWritten (now (words .entry)) (now (places .entry)) (now (table .entry)) n
+    ensures { λ r. ⌜ SymbolsListed (now (words .entry)) (now (places .entry)) (now (table .entry)) n
         (backOf (now (words .entry)) (now (places .entry)) (now (table .entry)) a) (now (sentence .entry)) (now (sentence .exit))
         (now (derivation .entry)) (now (derivation .exit))
         (lengths past) (lengths r) ⌝ }
 {
-    let symbols = right_of(words, places, table[5 * a + 3]);
-    let next = wide(table[5 * a + 4]) + 1;
+    let symbols = rules::right(words, rules::index(places, wide(entries::rule(table, a))));
+    let next = wide(entries::place(table, a)) + 1;
     list_symbols(
         words,
         places,
@@ -149,7 +140,7 @@ fn list_after(
     words: &[u16],
     places: &[u16],
     table: &[u16],
-    n: usize,
+    n: u16,
     path: &[u16],
     steps: usize,
     past: usize,
@@ -157,23 +148,14 @@ fn list_after(
     derivation: &mut [u16],
 ) -> usize
     requires { ⌜ WayReady after (now words) (now places) (now table) n (now path) steps (lengths past) ⌝ }
-    ensures { λ r. ⌜ WayWritten after (now (words .entry)) (now (places .entry)) (now (table .entry)) n (now (path .entry)) steps
+    ensures { λ r. ⌜ WayListed after (now (words .entry)) (now (places .entry)) (now (table .entry)) n (now (path .entry)) steps
         (now (sentence .entry)) (now (sentence .exit)) (now (derivation .entry)) (now (derivation .exit))
         (lengths past) (lengths r) ⌝ }
 {
     let mut so = past;
     let mut i = 0;
     while i < steps {
-        so = list_back(
-            words,
-            places,
-            table,
-            n,
-            wide(path[i]),
-            so,
-            sentence,
-            derivation,
-        );
+        so = list_back(words, places, table, n, path[i], so, sentence, derivation);
         i += 1;
     }
     so
@@ -189,14 +171,14 @@ pub fn list_tree(
     derivation: &mut [u16],
 ) -> Lengths
     requires { ⌜ TreeReady (now words) (now places) (now table) (request .n) (request .start) (request .target) ⌝ }
-    ensures { λ r. ⌜ TreeWritten (now (words .entry)) (now (places .entry)) (now (table .entry))
+    ensures { λ r. ⌜ TreeListed (now (words .entry)) (now (places .entry)) (now (table .entry))
         (request .n) (request .start) (request .target)
         (now (sentence .entry)) (now (sentence .exit)) (now (derivation .entry)) (now (derivation .exit)) r ⌝ }
 {
     let mut path = [0u16; MOST_NONTERMINALS];
     let n = request.n;
     let target = request.target;
-    let left = wide(words[rules::index(places, target)]);
+    let left = read(words, rules::index(places, target));
     let steps = climb(words, places, table, request.start, left, &mut path);
     let above = list_before(words, places, table, n, &path, steps, sentence, derivation);
     let under = list_rule(

@@ -1,5 +1,5 @@
--- The promises of this crate can be met, by the steps that its code takes: used rules are passed, and rules marked one after another
--- are marked together. Assumes nothing.
+-- The promises of this crate can be met, by the steps that its code takes: used rules are passed, and rules marked one after
+-- another are marked together. Assumes nothing.
 use Prim.Native.Nat.{ℕ, zero, suc, _+_, _≤_, _<_}
 use native.Mathlib.Omega.{arith}
 use native.Mathlib.Decide.{decLt, ℕ-discrete}

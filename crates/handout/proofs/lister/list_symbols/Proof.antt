@@ -2,8 +2,9 @@
 use borrow.Author.Needs.{needs}
 use Prim.Native.Nat.{_-_}
 use lib.ListN.{length}
-use Rattle.handout.proofs.ListerSteps.{Turn, tokens-kept, rules-kept, turns-begin, turn-goes-on, symbol-of-ready, symbols-listed}
 use Rattle.handout.specs.Listing.{lengths}
+use Rattle.handout.proofs.ListerSteps.{Turn, tokens-kept, rules-kept, turns-begin, turn-goes-on, symbol-of-ready}
+use Rattle.handout.proofs.ListerSteps.{symbols-listed}
 use Rattle.handout.proofs.lister.list_symbols.Statement.{statement}
 use Rattle.handout.proofs.lister.list_symbols.Tie as tie
 
@@ -16,7 +17,7 @@ abbrev μ-loop : tie.MeasureT-loop
 
 loop-holds : tie.Need-loop-holds Inv-loop μ-loop
 loop-holds c =
-    let a = c .before .before .before .before .before .args in
+    let a = c .before .before .before .before .before .before .args in
     turns-begin (a .words .now) (a .places .now) (a .table .now) (a .n) _ _ _ _
 
 mul-list-symbol : tie.Need-mul-list-symbol Inv-loop μ-loop
@@ -27,7 +28,10 @@ shared-slice-read-list-symbol c = search needs
 
 list-symbol-requires : tie.Need-list-symbol-requires Inv-loop μ-loop
 list-symbol-requires c κs =
-    symbol-of-ready (c .before .before .before .before .before .before .before .before .before .before .pre) (c .before .before .before .before .loop .inv) (c .before .before .before .loop-test .taken)
+    let test = c .before .before .before in
+    let loop = test .before in
+    let start = loop .before .before .before .before .before .before .before in
+    symbol-of-ready (start .pre) (loop .loop .inv) (test .loop-test .taken)
 
 add-i : tie.Need-add-i Inv-loop μ-loop
 add-i c = search needs
@@ -37,17 +41,22 @@ loop-less c = search needs
 
 loop-again : tie.Need-loop-again Inv-loop μ-loop
 loop-again c =
-    turn-goes-on (c .before .before .before .before .before .before .before .before .before .loop .inv) (c .before .before .before .before .before .before .before .before .loop-test .taken) (c .before .before .before .before .list-symbol .ensures)
+    let listed = c .before .before .before .before in
+    let test = listed .before .before .before .before in
+    let loop = test .before in
+    turn-goes-on (loop .loop .inv) (test .loop-test .taken) (listed .list-symbol .ensures)
 
 same-length : tie.Need-same-length Inv-loop μ-loop
 same-length c =
-    let ready = c .before .before .before .before .before .before .before .pre in
-    tokens-kept (c .before .loop .inv .done .listed (ready .g) (ready .known))
+    let loop = c .before in
+    let start = loop .before .before .before .before .before .before .before in
+    tokens-kept (loop .loop .inv .done .listed (start .pre .g) (start .pre .known))
 
 same-length-2 : tie.Need-same-length-2 Inv-loop μ-loop
 same-length-2 c =
-    let ready = c .before .before .before .before .before .before .before .pre in
-    rules-kept (c .before .loop .inv .done .listed (ready .g) (ready .known))
+    let loop = c .before in
+    let start = loop .before .before .before .before .before .before .before in
+    rules-kept (loop .loop .inv .done .listed (start .pre .g) (start .pre .known))
 
 returns : tie.Need-returns Inv-loop μ-loop
 returns c = symbols-listed (c .before .loop .inv) (c .loop-test .left)

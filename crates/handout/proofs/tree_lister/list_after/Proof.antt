@@ -1,4 +1,5 @@
--- `handout::tree_lister::list_after` meets its contract: the loop's invariant is `AfterSo`, with the lengths of what is lent. Assumes nothing.
+-- `handout::tree_lister::list_after` meets its contract: the loop's invariant is `AfterSo`, with the lengths of what is lent.
+-- Assumes nothing.
 use borrow.Author.Needs.{needs}
 use native.Mathlib.Omega.{arith}
 use mathlib.Core.Path.{_≡_, refl}
@@ -21,28 +22,30 @@ abbrev μ-loop : tie.MeasureT-loop
 
 loop-holds : tie.Need-loop-holds Inv-loop μ-loop
 loop-holds c =
-    let a = c .before .before .before .before .before .args in (
+    let a = c .before .before .before .before .before .before .args in (
       omega arith,
       refl,
       refl,
       λ start A way. after-begins (a .words .now) (a .places .now) (a .table .now) (a .n) start A _ _ _,
     )
 
-mul-wide : tie.Need-mul-wide Inv-loop μ-loop
-mul-wide c = search needs
+mul-list-back : tie.Need-mul-list-back Inv-loop μ-loop
+mul-list-back c = search needs
 
-shared-slice-read-wide : tie.Need-shared-slice-read-wide Inv-loop μ-loop
-shared-slice-read-wide c =
-    omega (arith, c .before .loop-test .taken, c .before .before .before .before .before .before .before .before .pre .noted .short)
-
-wide-requires : tie.Need-wide-requires Inv-loop μ-loop
-wide-requires c κs = search needs
+shared-slice-read-list-back : tie.Need-shared-slice-read-list-back Inv-loop μ-loop
+shared-slice-read-list-back c =
+    let test = c .before in
+    let start = test .before .before .before .before .before .before .before .before in
+    omega (arith, test .loop-test .taken, start .pre .path-of .short)
 
 list-back-requires : tie.Need-list-back-requires Inv-loop μ-loop
 list-back-requires c κs =
-    let pre = c .before .before .before .before .before .before .before .before .before .before .before .pre in
-    let inv = c .before .before .before .before .before .loop .inv in
-    back-at (pre .noted) (inv .3 (pre .start) (pre .A) (pre .noted)) (pre .ready) (c .before .before .before .before .loop-test .taken) (c .before .before .wide .ensures)
+    let test = c .before .before .before in
+    let loop = test .before in
+    let start = loop .before .before .before .before .before .before .before in
+    let pre = start .pre in
+    let so = loop .loop .inv .3 (pre .start) (pre .A) (pre .path-of) in
+    back-at (pre .path-of) so (pre .ready) (test .loop-test .taken) refl
 
 add-i : tie.Need-add-i Inv-loop μ-loop
 add-i c = search needs
@@ -52,12 +55,16 @@ loop-less c = search needs
 
 loop-again : tie.Need-loop-again Inv-loop μ-loop
 loop-again c =
-    let inv = c .before .before .before .before .before .before .before .before .before .before .loop .inv in (
+    let back = c .before .before .before .before in
+    let test = back .before .before .before .before in
+    let loop = test .before in
+    let inv = loop .loop .inv in
+    let listed = back .list-back .ensures in
+    let more = test .loop-test .taken in (
       search needs,
       search needs,
       search needs,
-      λ start A way.
-          after-goes-on way (inv .3 start A way) (c .before .before .before .before .before .before .before .before .before .loop-test .taken) (c .before .before .before .before .before .before .before .wide .ensures) (c .before .before .before .before .list-back .ensures),
+      λ start A way. after-goes-on way (inv .3 start A way) more refl listed,
     )
 
 same-length : tie.Need-same-length Inv-loop μ-loop
@@ -68,9 +75,11 @@ same-length-2 c = search needs
 
 returns : tie.Need-returns Inv-loop μ-loop
 returns c =
-    let loop = c .before .loop in
-    let all : loop .i ≡ c .before .before .before .before .before .before .before .args .steps = omega (arith, c .loop-test .left, loop .inv .0) in
-    λ start A way. after-ends way (loop .inv .3 start A way) all
+    let loop = c .before in
+    let start = loop .before .before .before .before .before .before .before in
+    let inv = loop .loop .inv in
+    let all : loop .loop .i ≡ start .args .steps = omega (arith, c .loop-test .left, inv .0) in
+    λ start A way. after-ends way (inv .3 start A way) all
 
 pub list-after-spec : {M : Type 1} → statement M
 list-after-spec =
@@ -79,9 +88,8 @@ list-after-spec =
     Inv-loop
     μ-loop
     loop-holds
-    mul-wide
-    shared-slice-read-wide
-    wide-requires
+    mul-list-back
+    shared-slice-read-list-back
     list-back-requires
     add-i
     loop-less

@@ -1,82 +1,118 @@
 -- `handout::tree_lister::list_back` meets its contract: the symbols after the place. Assumes nothing.
 use borrow.Author.Needs.{needs}
 use native.Mathlib.Omega.{arith}
-use Rattle.handout.proofs.ListerSteps.{rule-stands, nonterminal-low, table-long}
-use Rattle.handout.proofs.BesideSteps.{back-within, back-listable, back-written}
+use mathlib.Core.Path.{_∙_}
+use Rattle.handout.proofs.BesideSteps.{right-read, back-within, back-listable, back-listed}
 use Rattle.handout.proofs.tree_lister.list_back.Statement.{statement}
 use Rattle.handout.proofs.tree_lister.list_back.Tie as tie
 
-mul-right-of : tie.Need-mul-right-of
-mul-right-of c =
-    let ready = c .before .before .before .before .pre in
-    omega (arith, nonterminal-low (ready .beside .known) _ (ready .beside .leaf))
-
-add-right-of : tie.Need-add-right-of
-add-right-of c =
-    let ready = c .before .before .before .before .pre in
-    omega (arith, nonterminal-low (ready .beside .known) _ (ready .beside .leaf))
-
-mul-right-of-2 : tie.Need-mul-right-of-2
-mul-right-of-2 c =
-    let ready = c .before .before .before .before .pre in
-    omega (arith, nonterminal-low (ready .beside .known) _ (ready .beside .leaf))
-
-shared-slice-read-right-of : tie.Need-shared-slice-read-right-of
-shared-slice-read-right-of c =
-    let ready = c .before .before .before .before .before .pre in
-    table-long (ready .beside .known) _ 3 (ready .beside .leaf) (omega arith)
-
-right-of-requires : tie.Need-right-of-requires
-right-of-requires c κs =
-    let ready = c .before .before .before .before .before .pre in
-    rule-stands (ready .beside .known) (ready .beside .number)
-
-mul-wide : tie.Need-mul-wide
-mul-wide c =
-    let ready = c .before .before .before .before .before .before .pre in
-    omega (arith, nonterminal-low (ready .beside .known) _ (ready .beside .leaf))
-
-add-wide : tie.Need-add-wide
-add-wide c =
-    let ready = c .before .before .before .before .before .before .pre in
-    omega (arith, nonterminal-low (ready .beside .known) _ (ready .beside .leaf))
-
-mul-wide-2 : tie.Need-mul-wide-2
-mul-wide-2 c =
-    let ready = c .before .before .before .before .before .before .pre in
-    omega (arith, nonterminal-low (ready .beside .known) _ (ready .beside .leaf))
-
-shared-slice-read-wide : tie.Need-shared-slice-read-wide
-shared-slice-read-wide c =
-    let ready = c .before .before .before .before .before .before .before .pre in
-    table-long (ready .beside .known) _ 4 (ready .beside .leaf) (omega arith)
+rule-requires : tie.Need-rule-requires
+rule-requires c κs = search needs
 
 wide-requires : tie.Need-wide-requires
 wide-requires c κs = search needs
 
+index-requires : tie.Need-index-requires
+index-requires c κs = search needs
+
+right-requires : tie.Need-right-requires
+right-requires c κs = search needs
+
+place-requires : tie.Need-place-requires
+place-requires c κs = search needs
+
+wide-requires-2 : tie.Need-wide-requires-2
+wide-requires-2 c κs = search needs
+
 add-next : tie.Need-add-next
 add-next c =
-    omega (arith, back-within (c .before .before .right-of .ensures) (c .before .before .before .before .before .before .before .before .pre) (c .wide .ensures))
+    let at = c in
+    let place = at .before in
+    let right = place .before in
+    let index = right .before in
+    let wide = index .before in
+    let rule = wide .before in
+    let start = rule .before .before .before .before .before .before in
+    let a = start .args in
+    let here = wide .wide .ensures ∙ rule .rule .ensures in
+    let symbols = right-read (a .words .now) (a .places .now) (right .right .ensures .0) (index .index .ensures) here in
+    let place-is = at .wide2 .ensures ∙ place .place .ensures in
+    omega (arith, back-within symbols (start .pre) place-is)
 
 mul-list-symbols : tie.Need-mul-list-symbols
 mul-list-symbols c =
-    omega (arith, back-within (c .before .before .right-of .ensures) (c .before .before .before .before .before .before .before .before .pre) (c .wide .ensures))
+    let at = c in
+    let place = at .before in
+    let right = place .before in
+    let index = right .before in
+    let wide = index .before in
+    let rule = wide .before in
+    let start = rule .before .before .before .before .before .before in
+    let a = start .args in
+    let here = wide .wide .ensures ∙ rule .rule .ensures in
+    let symbols = right-read (a .words .now) (a .places .now) (right .right .ensures .0) (index .index .ensures) here in
+    let place-is = at .wide2 .ensures ∙ place .place .ensures in
+    omega (arith, back-within symbols (start .pre) place-is)
 
 sub-list-symbols : tie.Need-sub-list-symbols
 sub-list-symbols c =
-    back-within (c .before .before .right-of .ensures) (c .before .before .before .before .before .before .before .before .pre) (c .wide .ensures)
+    let at = c in
+    let place = at .before in
+    let right = place .before in
+    let index = right .before in
+    let wide = index .before in
+    let rule = wide .before in
+    let start = rule .before .before .before .before .before .before in
+    let a = start .args in
+    let here = wide .wide .ensures ∙ rule .rule .ensures in
+    let symbols = right-read (a .words .now) (a .places .now) (right .right .ensures .0) (index .index .ensures) here in
+    let place-is = at .wide2 .ensures ∙ place .place .ensures in
+    omega (arith, back-within symbols (start .pre) place-is)
 
 part-list-symbols-start : tie.Need-part-list-symbols-start
 part-list-symbols-start c =
-    omega (arith, back-within (c .before .before .right-of .ensures) (c .before .before .before .before .before .before .before .before .pre) (c .wide .ensures))
+    let at = c in
+    let place = at .before in
+    let right = place .before in
+    let index = right .before in
+    let wide = index .before in
+    let rule = wide .before in
+    let start = rule .before .before .before .before .before .before in
+    let a = start .args in
+    let here = wide .wide .ensures ∙ rule .rule .ensures in
+    let symbols = right-read (a .words .now) (a .places .now) (right .right .ensures .0) (index .index .ensures) here in
+    let place-is = at .wide2 .ensures ∙ place .place .ensures in
+    omega (arith, back-within symbols (start .pre) place-is)
 
 part-list-symbols-end : tie.Need-part-list-symbols-end
 part-list-symbols-end c =
-    omega (arith, back-within (c .before .before .right-of .ensures) (c .before .before .before .before .before .before .before .before .pre) (c .wide .ensures))
+    let at = c in
+    let place = at .before in
+    let right = place .before in
+    let index = right .before in
+    let wide = index .before in
+    let rule = wide .before in
+    let start = rule .before .before .before .before .before .before in
+    let a = start .args in
+    let here = wide .wide .ensures ∙ rule .rule .ensures in
+    let symbols = right-read (a .words .now) (a .places .now) (right .right .ensures .0) (index .index .ensures) here in
+    let place-is = at .wide2 .ensures ∙ place .place .ensures in
+    omega (arith, back-within symbols (start .pre) place-is)
 
 list-symbols-requires : tie.Need-list-symbols-requires
 list-symbols-requires c κs =
-    back-listable (c .before .before .before .before .before .right-of .ensures) (c .before .before .before .before .before .before .before .before .before .before .before .pre) (c .before .before .before .wide .ensures)
+    let at = c .before .before .before in
+    let place = at .before in
+    let right = place .before in
+    let index = right .before in
+    let wide = index .before in
+    let rule = wide .before in
+    let start = rule .before .before .before .before .before .before in
+    let a = start .args in
+    let here = wide .wide .ensures ∙ rule .rule .ensures in
+    let symbols = right-read (a .words .now) (a .places .now) (right .right .ensures .0) (index .index .ensures) here in
+    let place-is = at .wide2 .ensures ∙ place .place .ensures in
+    back-listable symbols (start .pre) place-is
 
 same-length : tie.Need-same-length
 same-length c = search needs
@@ -86,22 +122,30 @@ same-length-2 c = search needs
 
 returns : tie.Need-returns
 returns c =
-    back-written (c .before .before .before .before .before .before .before .before .before .before .right-of .ensures) (c .before .before .before .before .before .before .before .before .before .before .before .before .before .before .before .before .pre) (c .before .before .before .before .before .before .before .before .wide .ensures) (c .before .before .before .before .list-symbols .ensures)
+    let listed = c .before .before .before .before in
+    let at = listed .before .before .before .before in
+    let place = at .before in
+    let right = place .before in
+    let index = right .before in
+    let wide = index .before in
+    let rule = wide .before in
+    let start = rule .before .before .before .before .before .before in
+    let a = start .args in
+    let here = wide .wide .ensures ∙ rule .rule .ensures in
+    let symbols = right-read (a .words .now) (a .places .now) (right .right .ensures .0) (index .index .ensures) here in
+    let place-is = at .wide2 .ensures ∙ place .place .ensures in
+    back-listed symbols (start .pre) place-is (listed .list-symbols .ensures)
 
 pub list-back-spec : {M : Type 1} → statement M
 list-back-spec =
     tie.close
     (tie.spec
-    mul-right-of
-    add-right-of
-    mul-right-of-2
-    shared-slice-read-right-of
-    right-of-requires
-    mul-wide
-    add-wide
-    mul-wide-2
-    shared-slice-read-wide
+    rule-requires
     wide-requires
+    index-requires
+    right-requires
+    place-requires
+    wide-requires-2
     add-next
     mul-list-symbols
     sub-list-symbols
