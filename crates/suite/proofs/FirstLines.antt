@@ -27,7 +27,7 @@ use Rattle.lines.specs.Lines.{suiteLine, refusedLine, mostLine}
 use Rattle.lines.specs.Room.{LineWritten}
 use Rattle.lines.proofs.Main.{front, within, suite-few, refused-few}
 use Rattle.suite.specs.declared.Piece.{Piece}
-use Rattle.suite.specs.Text.{sentenceLines, firstLine, Unpacks, refused-file, refused-words}
+use Rattle.suite.specs.Text.{sentenceLines, firstLine, Unpacks, Text, refused-file, refused-words}
 use Rattle.suite.specs.Pieces.{going, whole}
 use Rattle.suite.specs.Begun as begun
 use Rattle.suite.specs.Begun.{OneLine, SuiteLine, FirstLine, of-grammar, of-fault, OfWords, TextBegun}
@@ -96,6 +96,10 @@ of-rows : {words before after : List ℕ} {k p : ℕ} → mostTable ≤ length b
 of-rows room (row-4-7 {x = x} r) = (x, r, refl, refl)
 of-rows {words} room (row-3 {g = g} e a h) = absurd (omega (arith, table-few g (in-bounds words e)))
 
+refused-text : {file words : List ℕ} {k p : ℕ} (x : GrammarRefusal) → Unpacks file words → GrammarRefused limit words x →
+    k ≡ row.number x → p ≡ row.place x → Text file (refusedLine k p)
+refused-text x u r e f = rw (e, f) (refused-words u r)
+
 -- by what `unpack` answers
 pub begun-refused : {file words before after table text : List ℕ} {so : Piece} {number place : ℕ} → 8707 ≤ length before →
     Unpacked file before (file-answer.Refused number place) after → OneLine number place text so → TextBegun file words table text so
@@ -120,7 +124,7 @@ begun-words p (begun.refused-words room tables line) =
     record {
       words-within = omega (arith, line .words);
       within = line .within;
-      so-far = λ marks zeros. whole (line .over) (rw (line .front, number-is, place-is) (refused-words (unpacks p .0) refused));
+      so-far = λ marks zeros. whole (line .over) (rw (line .front) (refused-text x (unpacks p .0) refused number-is place-is));
     }
 begun-words {after = after} {so = so} {n = n} p (begun.accepted {g = g} e a h line) =
     let (file-words, fits) = unpacks p in
