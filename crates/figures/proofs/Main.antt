@@ -1,5 +1,5 @@
--- The final statements of this crate, each by one citation: the promise of each call allows exactly one outcome for each input. What
--- `figure_at` and `cap` promise is an equation; `figure_at` says besides that its number is a word's. Assumes nothing.
+-- The final statements of this crate, each by one citation: the promise of each call allows exactly one outcome for each input.
+-- What `figure_at` and `cap` promise is an equation; `figure_at` says besides that its number is a word's. Assumes nothing.
 use Prim.Native.Nat.{ℕ, _≤_, _<_}
 use mathlib.Core.Bool.{Bool}
 use mathlib.Core.Path.{_≡_}

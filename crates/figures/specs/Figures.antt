@@ -1,5 +1,5 @@
--- What the calls of this crate promise, for any words and any numbers. A figure is a word of an array, one for each nonterminal: the
--- least or the context found so far, cut at document 01's limit and one more, or `noFigure` where none is found yet. That is no
+-- What the calls of this crate promise, for any words and any numbers. A figure is a word of an array, one for each nonterminal:
+-- the least or the context found so far, cut at document 01's limit and one more, or `noFigure` where none is found yet. That is no
 -- figure, and no cut makes one of it. Past the end of the array there is none either. Assumes nothing.
 use Prim.Native.Nat.{ℕ, _-_, _≤_, _<_, min}
 use mathlib.Core.Path.{_≡_}

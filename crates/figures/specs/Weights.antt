@@ -1,5 +1,5 @@
--- For the private functions of the crates above, which lower figures until nothing falls: each change lowers the weight. Nobody has to
--- believe this file; no promise cites it. Assumes nothing.
+-- For the private functions of the crates above, which lower figures until nothing falls: each change lowers the weight. Nobody has
+-- to believe this file; no promise cites it. Assumes nothing.
 use Prim.Native.Nat.{ℕ, _+_, _≤_}
 use mathlib.Core.List.{List, [], _∷_}
 

@@ -3,7 +3,7 @@
 -- other symbols. That tree is there even where the left side stands among its own symbols and its figure falls on the way.
 -- Nothing is below 0, so the start's figure stays. A rule that is tried lowers nothing more until the figure of its left side
 -- falls, so one that was seen with that figure may be passed over. Where the turn lowers none it changes no context, and the
--- rule is quiet. Assumes nothing.
+-- rule is quiet. What is tried after it, because it lowered one, keeps what is known. Assumes nothing.
 use mathlib.Core.Path.{_≡_, refl, sym, _∙_}
 use mathlib.Core.Logic.{inl, inr}
 use mathlib.Core.List.{List, _∷_}
@@ -18,14 +18,15 @@ use Rattle.layout.specs.Rules.{rightAt}
 use Rattle.grammar.specs.Caps.{OfOpen, measureCap}
 use Rattle.grammar.specs.Certificates.{wordSize, Holds, othersSize}
 use Rattle.grammar.proofs.AtRest.{place-figure}
-use Rattle.tables.specs.Figures.{noFigure, figure, Has, capped, Lowered, fell, stayed, LeastsDone, ContextsSound, ContextQuiet}
+use Rattle.figures.specs.Figures.{noFigure, figure, Has, capped, Lowered, fell, stayed}
+use Rattle.figures.specs.Weights.{Fallen}
+use Rattle.tables.specs.ContextFigures.{LeastsDone, ContextsSound, ContextQuiet}
 use Rattle.tables.specs.ContextSteps.{PlaceStep, skipped, tried, PlacesStep, no-symbol, symbol}
 use Rattle.tables.specs.ContextSteps.{ContextStep, as-seen, unseen, Known, Tried, Stands, SeenTurn}
 use Rattle.entries.proofs.SizeApart.{size-apart}
-use Rattle.tables.proofs.DoneLeasts.{done-certificate}
-use Rattle.tables.proofs.ContextsFall.{place-length, places-no-higher, context-no-higher}
+use Rattle.tables.proofs.ContextsFall.{place-length, places-no-higher, context-fallen, context-no-higher}
 use Rattle.tables.proofs.FiguresHaveRoom.{room-for-all}
-use Rattle.tables.proofs.FiguresKept.{lowered-no-higher, lowered-known}
+use Rattle.figures.proofs.FiguresKept.{lowered-no-higher, lowered-known}
 use Rattle.layout.specs.View.{View}
 use Rattle.layout.proofs.RulesInView.{viewed-rule, viewed-left, viewed-right, viewed-room}
 
@@ -37,7 +38,7 @@ lowered-sound : {g : Grammar} {us us′ : List ℕ} {A to f : ℕ} → Lowered u
     ContextsSound g us → ContextsSound g us′
 lowered-sound {g} d y sound = record {
   start = omega (arith, lowered-no-higher d (g .start), sound .start);
-  of-open = lowered-known (OpenCut g) (g .N) d y (sound .of-open);
+  of-open = λ B l has. lowered-known (λ C z. C < g .N → OpenCut g C z) d (λ l′. y) (λ C has′ l′. sound .of-open C l′ has′) B has l;
 }
 
 module _ (g : Grammar) (vs : List ℕ) (whole : ℕ) where
@@ -122,7 +123,7 @@ module _ {g : Grammar} {k B : ℕ} {w : List ℕ} (r : RuleAt g k B w) {vs us se
       opens : Opens g vs (figure us B + size) w
       opens i A h l =
           let y = stands .sound .of-open B (r .left) (unseen-has differs) in
-          rw (left-of-whole i A h l) (place-figure measure measureCap g (figure vs) (done-certificate done) i A r h l y)
+          rw (left-of-whole i A h l) (place-figure measure measureCap g (figure vs) (done .certificate) i A r h l y)
 
   step-tried : {us′ seen′ : List ℕ} {f : ℕ} → ContextStep (g .N) size vs k B w us seen us′ seen′ f → Has seen′ k →
       Tried g vs us′ B w (figure seen′ k)
@@ -169,10 +170,10 @@ module _ {n size k B : ℕ} {vs w us us′ seen seen′ : List ℕ} {f : ℕ} (s
 
 -- A TURN, as the functions read the rule
 module _ {ws places sizes vs : List ℕ} {n rules : ℕ} {g : Grammar} (known : Known ws places n rules sizes vs g) where
-  context-turn : {k f : ℕ} {us us′ seen seen′ : List ℕ} → k < rules → 128 ≤ length us →
+  turn-alone : {k f : ℕ} {us us′ seen seen′ : List ℕ} → k < rules → 128 ≤ length us →
       ContextStep n (getD sizes k 0) vs k (getD ws (getD places k 0) 0) (rightAt ws (getD places k 0)) us seen us′ seen′ f →
       SeenTurn g vs k us seen us′ seen′ f
-  context-turn {k} {f} {us} {us′} {seen} {seen′} h long step = record {
+  turn-alone {k} {f} {us} {us′} {seen} {seen′} h long step = record {
     keeps = keeps (viewed-rule view k h);
     still = still (viewed-rule view k h);
   }
@@ -207,23 +208,6 @@ module _ {ws places sizes vs : List ℕ} {n rules : ℕ} {g : Grammar} (known : 
         λ C u q. step-still q (known .sized k C u q) room stands (step-of q) e .1,
       )
 
-  -- as the functions read it, a turn that lowers nothing, and one that others follow
-  module _ {B k at f size : ℕ} {w us us′ seen seen′ : List ℕ} (h : k < rules) (long : 128 ≤ length us)
-      (is : at ≡ getD places k 0) (e : B ≡ getD ws at 0) (e′ : w ≡ rightAt ws at) (e″ : size ≡ getD sizes k 0)
-      (step : ContextStep n size vs k B w us seen us′ seen′ f) where
-    turn-of : SeenTurn g vs k us seen us′ seen′ f
-    turn-of = context-turn h long (rw (e, e′, e″, is) at step)
-
-    -- out of turn too
-    pub context-kept : Stands g vs us seen → Stands g vs us′ seen′
-    context-kept = turn-of .keeps
-
-    pub context-alone : f ≡ 0 → SeenTurn g vs k us seen us′ seen′ 0
-    context-alone none = record { keeps = turn-of .keeps; still = λ z. turn-of .still none }
-
-    pub context-followed : {xs ss : List ℕ} → (Stands g vs us′ seen′ → Stands g vs xs ss) → SeenTurn g vs k us seen xs ss 1
-    context-followed follows = record { keeps = λ s. follows (turn-of .keeps s); still = λ z. absurd (omega arith) }
-
   -- the left side of a rule has a place among the contexts, and each nonterminal one among the leasts
   pub left-room : {B k at m : ℕ} → k < rules → 128 ≤ m → at ≡ getD places k 0 → B ≡ getD ws at 0 → B < m
   left-room {B} {k} {m = m} h long is e = go (viewed-rule (known .view) k h)
@@ -238,3 +222,65 @@ module _ {ws places sizes vs : List ℕ} {n rules : ℕ} {g : Grammar} (known : 
   known-room long =
       let is = known .view .nonterminals in
       (rw is (room-for-all vs (g .N) (known .done .all)), rw is (viewed-room (known .view) long))
+
+-- A TURN of rule k so far, from the contexts us to us′, and what is seen: rule r is next, and it is k itself where nothing fell yet
+pub record ContextsFollowed (ws places : List ℕ) (n rules : ℕ) (sizes vs : List ℕ) (k : ℕ) (us seen us′ seen′ : List ℕ) (f r : ℕ) :
+    Type 0 where
+  pub same-length : length us′ ≡ length us
+  pub same-seen : length seen′ ≡ length seen
+  pub fallen : Fallen us us′ f
+  pub once : f ≤ 1
+  pub first : f ≡ 0 → (us′ ≡ us) × (seen′ ≡ seen) × (r ≡ k)
+  pub keeps : (g : Grammar) → Known ws places n rules sizes vs g → Stands g vs us seen → Stands g vs us′ seen′
+
+module _ {ws places : List ℕ} {n rules : ℕ} {sizes vs : List ℕ} where
+  pub followed-none : {k : ℕ} (us seen : List ℕ) → ContextsFollowed ws places n rules sizes vs k us seen us seen 0 k
+  followed-none us seen = record {
+    same-length = refl;
+    same-seen = refl;
+    fallen = omega arith;
+    once = omega arith;
+    first = λ e. (refl, refl, refl);
+    keeps = λ g known s. s;
+  }
+
+  module _ {k B r at f m size : ℕ} {w us us′ us″ seen seen′ seen″ : List ℕ}
+      (so-far : ContextsFollowed ws places n rules sizes vs k us seen us′ seen′ f r) (h : r < rules) (long : 128 ≤ length us′)
+      (found : at ≡ getD places r 0) (e : B ≡ getD ws at 0) (e′ : w ≡ rightAt ws at) (e″ : size ≡ getD sizes r 0)
+      (step : ContextStep n size vs r B w us′ seen′ us″ seen″ m) where
+    turn-of : (g : Grammar) → Known ws places n rules sizes vs g → SeenTurn g vs r us′ seen′ us″ seen″ m
+    turn-of g known = turn-alone known h long (rw (e, e′, e″, found) at step)
+
+    -- the next rule lowers a figure
+    pub followed-more : (s : ℕ) → length us″ ≡ length us′ → length seen″ ≡ length seen′ → ¬ (m ≡ 0) →
+        ContextsFollowed ws places n rules sizes vs k us seen us″ seen″ 1 s
+    followed-more s same same′ some = record {
+      same-length = same ∙ so-far .same-length;
+      same-seen = same′ ∙ so-far .same-seen;
+      fallen = omega (arith, so-far .fallen, context-fallen step);
+      once = omega arith;
+      first = λ z. absurd (omega arith);
+      keeps = λ g known stands. turn-of g known .keeps (so-far .keeps g known stands);
+    }
+
+    -- the next rule lowers none
+    pub followed-end : m ≡ 0 → (f ≤ 1) × Fallen us us″ f
+    followed-end none = (so-far .once, omega (arith, so-far .fallen, context-fallen step))
+
+    pub followed-turn : m ≡ 0 → (g : Grammar) → Known ws places n rules sizes vs g → SeenTurn g vs k us seen us″ seen″ f
+    followed-turn none g known = record {
+      keeps = λ stands. turn-of g known .keeps (so-far .keeps g known stands);
+      still = λ z stands.
+          let (same, same′, is) = so-far .first z in
+          let (still, quiet) = turn-of g known .still none (so-far .keeps g known stands) in
+          (still ∙ same, rw (same, is) at quiet);
+    }
+
+  -- there is no next rule
+  pub followed-out : {k f r : ℕ} {us us′ seen seen′ : List ℕ} →
+      ContextsFollowed ws places n rules sizes vs k us seen us′ seen′ f r → k < rules → rules ≤ r →
+      (g : Grammar) → Known ws places n rules sizes vs g → SeenTurn g vs k us seen us′ seen′ f
+  followed-out so-far h past g known = record {
+    keeps = so-far .keeps g known;
+    still = λ z stands. let (same, same′, is) = so-far .first z in absurd (omega arith);
+  }

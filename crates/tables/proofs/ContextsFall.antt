@@ -5,11 +5,12 @@ use mathlib.Core.Path.{_≡_, refl}
 use mathlib.Core.List.{List}
 use native.Mathlib.Omega.{arith}
 use lib.ListN.{length}
-use Rattle.tables.specs.Figures.{figure, Fallen}
+use Rattle.figures.specs.Figures.{figure}
+use Rattle.figures.specs.Weights.{Fallen}
 use Rattle.tables.specs.ContextSteps.{PlaceStep, skipped, tried, PlacesStep, no-symbol, symbol}
 use Rattle.tables.specs.ContextSteps.{ContextStep, as-seen, unseen}
-use Rattle.tables.proofs.FiguresFall.{lowered-fallen}
-use Rattle.tables.proofs.FiguresKept.{lowered-once, lowered-length, lowered-no-higher}
+use Rattle.figures.proofs.FiguresFall.{lowered-fallen}
+use Rattle.figures.proofs.FiguresKept.{lowered-once, lowered-length, lowered-no-higher}
 
 abbrev pub NoHigher : List ℕ → List ℕ → Type 0
 NoHigher us us′ = (A : ℕ) → figure us′ A ≤ figure us A

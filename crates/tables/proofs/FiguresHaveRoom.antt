@@ -4,7 +4,7 @@ use mathlib.Core.List.{List}
 use native.Mathlib.Decide.{decLt}
 use native.Mathlib.Omega.{arith}
 use lib.ListN.{length, List·getD-eq-default}
-use Rattle.tables.specs.Figures.{noFigure, Has}
+use Rattle.figures.specs.Figures.{noFigure, Has}
 
 pub room-for-all : (xs : List ℕ) (n : ℕ) → ((A : ℕ) → A < n → Has xs A) → n ≤ length xs
 room-for-all xs n all = go (decLt (length xs) n)

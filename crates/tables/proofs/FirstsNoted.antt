@@ -5,7 +5,7 @@ use mathlib.Core.List.{List, [], _∷_}
 use Prim.Native.Nat.{ℕ, zero, suc, _+_, _≤_, _<_}
 use native.Mathlib.Omega.{arith}
 use native.Mathlib.Decide.{decLt, ℕ-discrete}
-use lib.ListN.{length, getD, set, getD-replicate, length-replicate}
+use lib.ListN.{length, getD, getD-replicate, length-replicate}
 use lib.Seq.{getD-set-same, getD-set-other}
 use Rattle.entries.specs.Table.{noChoice}
 use Rattle.tables.specs.Choices.{choice, NoChoices, First, none-has, first, Noted, noted, kept}

@@ -11,7 +11,7 @@ use Rattle.grammar.proofs.LayoutExact.{rule-short}
 use Rattle.grammar.specs.Certificates.{Holds}
 use Rattle.grammar.proofs.ContextsExist.{holds-below}
 use Rattle.grammar.proofs.RuleNumbers.{rule-right}
-use Rattle.tables.specs.Figures.{figure}
+use Rattle.figures.specs.Figures.{figure}
 use Rattle.tables.specs.Choices.{PlaceFits, LeadsOf}
 use Rattle.tables.specs.Choices.{NotedWhere, does, does-not}
 use Rattle.tables.proofs.FirstsNoted.{firsts-past, firsts-noted}

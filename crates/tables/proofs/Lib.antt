@@ -6,17 +6,7 @@ pub mod TablesSettles
 pub mod TablesExact
 pub mod DeadGrammars
 -- The rounds.
-pub mod FiguresFall
-pub mod FiguresKept
 pub mod FiguresHaveRoom
-pub mod RoundsCompose
-pub mod RoundSoFar
-pub mod WrittenInOrder
-pub mod RuleSummed
-pub mod SymbolsCost
-pub mod LeastRounds
-pub mod RuleSizes
-pub mod DoneLeasts
 pub mod ContextsFall
 pub mod ContextRounds
 pub mod SeenRounds

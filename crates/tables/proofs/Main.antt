@@ -1,5 +1,5 @@
--- The final statements of this crate, each by one citation: what the promise of `tables` comes to. A reader who believes specs/ and reads
--- this page is done; what a table is, is crate entries' page. Assumes nothing.
+-- The final statements of this crate, each by one citation: what the promise of `tables` comes to. A reader who believes specs/ and
+-- reads this page is done; what a table is, is crate entries' page. Assumes nothing.
 use Prim.Native.Nat.{ℕ}
 use mathlib.Core.Path.{_≡_}
 use mathlib.Core.Logic.{_⊎_, _↔_}

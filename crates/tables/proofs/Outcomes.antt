@@ -14,32 +14,31 @@ use Rattle.grammar.specs.Caps.{ceiling}
 use Rattle.grammar.proofs.LayoutExact.{in-bounds}
 use Rattle.grammar.proofs.RuleNumbers.{rule-number}
 use Rattle.grammar.proofs.CappedTotals.{all-fit-exact}
-use Rattle.layout.specs.View.{View, Begun}
+use Rattle.layout.specs.View.{View}
+use Rattle.layout.specs.declared.judge.LayoutAnswer.the-variants as judged
+use Rattle.layout.proofs.WordsRead.{begun-of}
 use Rattle.entries.specs.Table.{lengthFor, tableLength}
 use Rattle.entries.specs.Writing.{tableOf}
 use Rattle.tables.specs.Promise.{Tables, row-4-7, row-3, row-done}
-use Rattle.tables.specs.Figures.{figure, FirstAbove, found-none, LeastsDone, ContextsRest, TotalsOf}
-use Rattle.tables.specs.Figures.{NoFigures, LeastsSound, ContextsSound}
-use Rattle.tables.specs.LeastSteps.{LeastsSized}
+use Rattle.figures.specs.Figures.{figure, FirstAbove, found-none}
+use Rattle.tables.specs.ContextFigures.{ContextsRest, TotalsOf, NoFigures, ContextsSound}
+use Rattle.leasts.specs.Promise.{FiguresOf, Figured, LeastsOf}
+use Rattle.leasts.specs.declared.FoundLeasts.{FoundLeasts}
 use Rattle.tables.specs.Choices.{ChosenOf, LeadsOf}
-use Rattle.tables.specs.Rows.{Grown, Placed, Finished}
+use Rattle.tables.specs.Rows.{Measured, Grown, Placed, Finished}
 use Rattle.tables.specs.Filling.{foundIn, Reach}
 use Rattle.tables.specs.declared.TableAnswer.{TableAnswer}
 use Rattle.tables.specs.declared.TableAnswer.the-variants.{Done, Refused}
-use Rattle.tables.specs.declared.figures.Found.{Found}
-use Rattle.tables.specs.declared.figures.Found.the-variants.{At, Nothing}
-use Rattle.tables.proofs.RowsFound.{leasts-begin, contexts-begin, row-5-found, leasts-found, all-trees, row-6-found}
+use Rattle.figures.specs.declared.Found.{Found}
+use Rattle.figures.specs.declared.Found.the-variants.{At, Nothing}
+use Rattle.tables.proofs.RowsFound.{contexts-begin, row-5-found, leasts-found, sizes-found, all-trees, row-6-found}
 use Rattle.tables.proofs.RowsFound.{contexts-found}
 use Rattle.tables.proofs.RowsFound.{figures, all-reached, row-7-found, all-fit}
-use Rattle.tables.proofs.FiguresFall.{figure-is}
+use Rattle.figures.proofs.FiguresFall.{figure-is}
 use Rattle.tables.proofs.FiguresHaveRoom.{room-for-all}
 use Rattle.tables.proofs.TableFound.{table-found}
 
--- the arrays at the outset
-pub leasts-start : {ws places xs : List ℕ} {n start rules : ℕ} (p : Begun ws places n start rules) → NoFigures xs →
-    LeastsSound (p .grammar) xs
-leasts-start {ws} {xs = xs} p e = leasts-begin (p .grammar) xs (in-bounds ws (p .view .is) .nonterminals) e
-
+-- the contexts at the outset
 pub start-few : {ws places vs sizes : List ℕ} {n start rules : ℕ} → Grown ws places n start rules vs sizes → start < 128
 start-few {ws} p =
     let ok = in-bounds ws (p .view .is) in
@@ -52,26 +51,38 @@ contexts-start {ws} {xs = xs} p e =
     let ok = in-bounds ws (p .view .is) in
     rw (p .first) (contexts-begin (p .grammar) xs (ok .nonterminals) (ok .start-below) e)
 
+-- 4 is passed
+pub measured : {ws : List ℕ} {r : FoundLeasts} {n t s k : ℕ} → LeastsOf ws r → r .answer ≡ judged.Grammar n t s k →
+    Measured ws (r .places) n s k (r .leasts) (r .sizes)
+measured {ws} {r} p q =
+    let begun = begun-of ws (p .answer) (p .places) q in
+    record {
+      grammar = begun .grammar;
+      view = begun .view;
+      first = begun .first;
+      figures = subst (λ j. Figured j (r .leasts) (r .sizes)) (begun .view .is) (p .figures);
+    }
+
 -- 5, or what goes on
 module _ {ws places : List ℕ} {n start rules : ℕ} (g : Grammar) (view : View ws places n rules g) (first : start ≡ g .start)
-    {vs sizes : List ℕ} (sized : LeastsSized g vs sizes) {found : Found} (search : FirstAbove vs n ceiling found) where
+    {vs sizes : List ℕ} (figured : FiguresOf g vs sizes) {found : Found} (search : FirstAbove vs n ceiling found) where
   searched-leasts : FirstAbove vs (g .N) ceiling found
   searched-leasts = subst (λ (m : ℕ). FirstAbove vs m ceiling found) (view .nonterminals) search
 
+  all-found : found ≡ Nothing → FirstAbove vs (g .N) ceiling Nothing
+  all-found e = subst (FirstAbove vs (g .N) ceiling) e searched-leasts
+
   pub refuses-5 : {before : List ℕ} {a : ℕ} {r : TableAnswer} → found ≡ At a → r ≡ Refused 5 a → Tables ws before r before
   refuses-5 {a = a} e q =
-      rw q (row-4-7 (row-5 (view .is) (row-5-found g vs (sized .rest) a (subst (FirstAbove vs (g .N) ceiling) e searched-leasts))))
-
-  leasts-done : found ≡ Nothing → LeastsDone g vs
-  leasts-done e = leasts-found g vs (sized .rest) (subst (FirstAbove vs (g .N) ceiling) e searched-leasts)
+      rw q (row-4-7 (row-5 (view .is) (row-5-found g vs sizes figured a (subst (FirstAbove vs (g .N) ceiling) e searched-leasts))))
 
   pub grown : found ≡ Nothing → Grown ws places n start rules vs sizes
   grown e = record {
     grammar = g;
     view = view;
     first = first;
-    leasts = leasts-done e;
-    sizes-are = sized .sized (leasts-done e);
+    leasts = leasts-found g vs sizes figured (all-found e);
+    sizes-are = sizes-found g vs sizes figured (all-found e);
   }
 
 -- 6, or what goes on
@@ -135,7 +146,8 @@ module _ {ws places : List ℕ} {n rules : ℕ} {vs sizes us : List ℕ} (p : Pl
 
   pub refuses-7 : {before : List ℕ} {a : ℕ} {r : TableAnswer} → found ≡ At a → r ≡ Refused 7 a → Tables ws before r before
   refuses-7 {a = a} e q =
-      rw q (row-4-7 (row-7 (p .view .is) (all-trees (p .grammar) vs (p .leasts)) (all-reached (p .grammar) vs (p .leasts) us (p .contexts))
+      rw q (row-4-7 (row-7 (p .view .is) (all-trees (p .grammar) vs (p .leasts))
+      (all-reached (p .grammar) vs (p .leasts) us (p .contexts))
       (row-7-found (p .grammar) vs (p .leasts) us (p .contexts) sizes totals (p .sizes-are) of-totals enough ok a
       (subst (FirstAbove totals (R (p .grammar)) limit) e searched-totals))))
 

@@ -1,39 +1,36 @@
--- What the arrays say where a search through them has ended: rows 5, 6 and 7 at the lowest, or none of them. At rest a nonterminal
--- without a least has no tree, and one without a context is not reached (crate grammar, AtRest); what has one has a tree, or is
--- reached. Where all have both, the totals, cut at 4,097, are above 4,096 exactly where row 7 speaks of the rule (CappedTotals).
--- Assumes nothing.
+-- What the arrays say where a search through them has ended: rows 5, 6 and 7 at the lowest, or none of them. A nonterminal without
+-- a least has no tree (crate leasts), and at rest one without a context is not reached (crate grammar, AtRest); what has one has a
+-- tree, or is reached. Where all have both, the totals, cut at 4,097, are above 4,096 exactly where row 7 speaks of the rule
+-- (CappedTotals). Assumes nothing.
 use Prim.Native.Nat.{ℕ, _+_, _≤_, _<_}
 use native.Mathlib.Omega.{arith}
 use native.Mathlib.Decide.{decLt, ℕ-discrete}
-use mathlib.Core.Path.{_≡_, sym, ap, _∙_}
+use mathlib.Core.Path.{_≡_, refl, sym, ap, _∙_}
 use mathlib.Core.List.{List}
 use lib.ListN.{length, set, getD-replicate, length-replicate}
 use lib.Seq.{getD-set-same, getD-set-other}
 use Rattle.grammar.specs.Words.{Grammar, RuleAt, R, InBounds}
 use Rattle.grammar.specs.Terms.{measure, limit}
+use Rattle.grammar.specs.Tree.{Tree}
+use Rattle.grammar.specs.Least.{Least}
+use Rattle.grammar.specs.Certificates.{wordSize}
 use Rattle.grammar.specs.Refusals.{Lowest, NoTree, AllTrees, Unreached, AllReached, Oversize, AllFit}
 use Rattle.grammar.proofs.LayoutExact.{rule-at}
 use Rattle.grammar.proofs.RuleNumbers.{rule-number}
 use Rattle.grammar.proofs.Dead.{open-reached}
-use Rattle.grammar.specs.Caps.{OfOpen, CappedFigures, stoppedTotal, LeastsAtRest, ContextsAtRest, ceiling, measureCap}
-use Rattle.grammar.proofs.CappedLeasts.{certificate-trees}
+use Rattle.grammar.specs.Caps.{OfOpen, CappedFigures, stoppedTotal, ContextsAtRest, ceiling, measureCap}
+use Rattle.grammar.proofs.CappedLeasts.{certificate-trees, capped-certificate}
+use Rattle.grammar.proofs.LeastsExist.{leasts-exist}
+use Rattle.grammar.proofs.Unique.{least-unique}
 use Rattle.grammar.proofs.CappedContexts.{certificate-reached, start-figure}
 use Rattle.grammar.proofs.CappedTotals.{oversize-exact, fits-exact}
-use Rattle.grammar.proofs.AtRest.{no-figure-no-tree, rest-context-certificate, no-figure-unreached}
-use Rattle.tables.specs.declared.figures.Found.the-variants.{At, Nothing}
-use Rattle.tables.specs.Figures.{noFigure, figure, Has, capped, FirstAbove, found-at, found-none, LeastsSound, LeastsRest}
-use Rattle.tables.specs.Figures.{LeastsDone, SizesOf}
-use Rattle.tables.specs.Figures.{ContextsSound, ContextsRest, TotalsOf, NoFigures}
+use Rattle.grammar.proofs.AtRest.{rest-context-certificate, no-figure-unreached}
+use Rattle.figures.specs.declared.Found.the-variants.{At, Nothing}
+use Rattle.figures.specs.Figures.{noFigure, figure, Has, capped, FirstAbove, found-at, found-none}
+use Rattle.tables.specs.ContextFigures.{LeastsDone, SizesOf, ContextsSound, ContextsRest, TotalsOf, NoFigures}
 use Rattle.tables.specs.Rows.{ContextsDone}
-use Rattle.tables.proofs.FiguresFall.{figure-is}
-use Rattle.tables.proofs.DoneLeasts.{done-certificate}
-
-has? : (xs : List ℕ) (A : ℕ) → Dec (Has xs A)
-has? xs A = go (ℕ-discrete (figure xs A) noFigure)
-  where
-    go : Dec (figure xs A ≡ noFigure) → Dec (Has xs A)
-    go (yes e) = no (λ h. h e)
-    go (no d) = yes d
+use Rattle.figures.proofs.FiguresFall.{figure-is}
+use Rattle.leasts.specs.Promise.{LeastFigure, of-tree, no-tree, SizeFigure, of-trees, no-trees, FiguresOf}
 
 -- the lowest with a property, where none below has it
 lowest-where : {P : ℕ → Type 0} {a : ℕ} → P a → ((m : ℕ) → m < a → ¬ P m) → Lowest P a
@@ -44,11 +41,7 @@ lowest-where {P} {a} p none = record { such = p; lowest = λ m q. go m q (decLt 
     go m q (no l) = omega arith
 
 module _ (g : Grammar) where
-  -- AT THE OUTSET no nonterminal has a least; and the start alone a context, which is 0
-  pub leasts-begin : (xs : List ℕ) → g .N ≤ 128 → NoFigures xs → LeastsSound g xs
-  leasts-begin xs few e A lt h =
-      absurd (h (ap (λ (l : List ℕ). figure l A) e ∙ getD-replicate 128 A noFigure noFigure (omega arith)))
-
+  -- AT THE OUTSET the start alone has a context, which is 0
   pub contexts-begin : (xs : List ℕ) → g .N ≤ 128 → g .start < g .N → NoFigures xs → ContextsSound g (set xs (g .start) 0)
   contexts-begin xs few within e = record { start = at-start; of-open = λ A lt h. go A lt h (ℕ-discrete A (g .start)) }
     where
@@ -67,31 +60,52 @@ module _ (g : Grammar) where
           absurd (h (kept ∙ none))
 
   -- 5
-  module _ (vs : List ℕ) (rest : LeastsRest g vs) where
-    leasts-at-rest : LeastsAtRest measure measureCap g (figure vs) (Has vs)
-    leasts-at-rest = record {
-      figure = rest .sound;
-      quiet = λ k A w r have.
-          let q = rest .quiet k (rule-number r) A w r have in
-          (λ e. omega arith, q);
-    }
+  tree-below : {A x : ℕ} → LeastFigure g A x → x ≤ ceiling → Tree g A
+  tree-below (of-tree least) l = least .tree
+  tree-below (no-tree none) l = absurd (omega arith)
 
-    none-above : (A : ℕ) → A < g .N → ceiling < figure vs A → ¬ Has vs A
-    none-above A lt l h = let (t, e) = rest .sound A lt h in omega arith
+  no-tree-above : {A x : ℕ} → LeastFigure g A x → ceiling < x → ¬ Tree g A
+  no-tree-above (of-tree least) l = absurd (omega arith)
+  no-tree-above (no-tree none) l = none
 
+  -- the figure is the cut of the least
+  cut-of : {A x y : ℕ} → LeastFigure g A x → Least measure g A y → x ≡ capped y
+  cut-of (of-tree least) other = ap capped (least-unique {c = measure} least other)
+  cut-of (no-tree none) other = absurd (none (other .tree))
+
+  size-is : {vs w : List ℕ} {x : ℕ} → SizeFigure g vs w x → AllTrees g → x ≡ 1 + wordSize measure g (figure vs) w
+  size-is (of-trees t) all = refl
+  size-is (no-trees none) all = absurd (none (λ B m l. all B l))
+
+  module _ (vs sizes : List ℕ) (found : FiguresOf g vs sizes) where
     pub row-5-found : (a : ℕ) → FirstAbove vs (g .N) ceiling (At a) → Lowest (NoTree g) a
     row-5-found a (found-at lt above before) =
         lowest-where
-        (no-figure-no-tree measure measureCap g (figure vs) (Has vs) (has? vs) leasts-at-rest a lt (none-above a lt above))
-        (λ m l z. let b = before m l in z .none (rest .sound m (omega arith) (λ e. omega arith) .0))
+        (record { nonterminal = lt; none = no-tree-above (found .least a lt) above })
+        (λ m l z. z .none (tree-below (found .least m (omega arith)) (before m l)))
+
+    -- 5 is passed
+    trees-found : FirstAbove vs (g .N) ceiling Nothing → AllTrees g
+    trees-found (found-none all) A lt = tree-below (found .least A lt) (all A lt)
 
     pub leasts-found : FirstAbove vs (g .N) ceiling Nothing → LeastsDone g vs
-    leasts-found (found-none all) = record { rest = rest; all = λ A lt e. omega (arith, all A lt) }
+    leasts-found search =
+        let (x, leasts) = leasts-exist measure g (trees-found search) in
+        record {
+          certificate = capped-certificate measure measureCap g x leasts (figure vs) .1
+              (λ A lt. cut-of (found .least A lt) (leasts A lt));
+          all = λ A lt. low search A lt;
+        }
+      where
+        low : FirstAbove vs (g .N) ceiling Nothing → (A : ℕ) → A < g .N → Has vs A
+        low (found-none all) A lt e = omega (arith, all A lt)
+
+    pub sizes-found : FirstAbove vs (g .N) ceiling Nothing → SizesOf g vs sizes
+    sizes-found search k A w r = size-is (found .size k A w r) (trees-found search)
 
   module _ (vs : List ℕ) (done : LeastsDone g vs) where
-    -- 5 is passed
     pub all-trees : AllTrees g
-    all-trees = certificate-trees measure measureCap g (figure vs) (done-certificate done)
+    all-trees = certificate-trees measure measureCap g (figure vs) (done .certificate)
 
     -- 6
     module _ (us : List ℕ) where
@@ -119,7 +133,7 @@ module _ (g : Grammar) where
       module _ (placed : ContextsDone g vs us) where
         pub figures : CappedFigures measure measureCap g (figure vs) (figure us)
         figures = record {
-          leasts = done-certificate done;
+          leasts = done .certificate;
           contexts = rest-context-certificate measure measureCap g (figure vs) (figure us) (Has us)
               (contexts-at-rest (placed .rest)) (placed .all);
         }

@@ -6,7 +6,8 @@ use native.Mathlib.Omega.{arith}
 use lib.ListN.{getD}
 use Rattle.grammar.specs.Words.{Grammar}
 use Rattle.grammar.proofs.RuleNumbers.{rule-number}
-use Rattle.tables.specs.Figures.{figure, capped, TotalsOf}
+use Rattle.figures.specs.Figures.{figure, capped}
+use Rattle.tables.specs.ContextFigures.{TotalsOf}
 use Rattle.layout.specs.View.{View}
 use Rattle.layout.proofs.RulesInView.{viewed-left}
 

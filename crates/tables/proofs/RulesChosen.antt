@@ -5,8 +5,8 @@ use mathlib.Core.List.{List}
 use Prim.Native.Nat.{ℕ, _+_, _≤_, _<_}
 use native.Mathlib.Omega.{arith}
 use lib.ListN.{length, getD}
-use Rattle.grammar.specs.Words.{Grammar, RuleAt}
-use Rattle.tables.specs.Figures.{figure}
+use Rattle.grammar.specs.Words.{Grammar}
+use Rattle.figures.specs.Figures.{figure}
 use Rattle.tables.specs.Choices.{RuleFits, ChosenOf}
 use Rattle.tables.specs.Choices.{NotedWhere, does, does-not}
 use Rattle.tables.proofs.FirstsNoted.{firsts-past, firsts-noted}

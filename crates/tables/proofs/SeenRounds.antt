@@ -11,9 +11,11 @@ use borrow.Author.Count.{below-more}
 use native.Mathlib.Decide.{decLt}
 use lib.ListN.{length, replicate, getD-replicate, length-replicate, List·getD-eq-default}
 use Rattle.grammar.specs.Words.{Grammar}
-use Rattle.tables.specs.Figures.{noFigure, figure, Fallen, turn, ContextsSound, ContextQuiet}
+use Rattle.figures.specs.Figures.{noFigure, figure, turn}
+use Rattle.figures.specs.Weights.{Fallen}
+use Rattle.tables.specs.ContextFigures.{ContextsSound, ContextQuiet}
 use Rattle.tables.specs.ContextSteps.{Known, Stands, SeenTurn, SeenRound}
-use Rattle.tables.proofs.RoundsCompose.{each-turn}
+use Rattle.figures.proofs.EachTurn.{each-turn}
 
 module _ (g : Grammar) (vs : List ℕ) where
   -- the first i turns of a round

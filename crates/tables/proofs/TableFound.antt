@@ -20,7 +20,8 @@ use Rattle.grammar.specs.Certificates.{either, wordSize, Leasts, Holds, Context
 use Rattle.grammar.proofs.ContextCertificate.{context-certificate}
 use Rattle.grammar.proofs.ContextsExist.{holds-below}
 use Rattle.entries.specs.Table.{noChoice, IsTable}
-use Rattle.tables.specs.Figures.{figure, SizesOf}
+use Rattle.figures.specs.Figures.{figure}
+use Rattle.tables.specs.ContextFigures.{SizesOf}
 use Rattle.tables.specs.Choices.{choice, First, none-has, first, RuleFits, ChosenOf, PlaceFits, LeadsOf}
 use Rattle.tables.specs.Filling.{contextRule, contextPlace, foundIn}
 use Rattle.entries.proofs.SizeApart.{size-apart}

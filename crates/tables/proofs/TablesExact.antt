@@ -1,5 +1,5 @@
--- Each answer of `tables` is given exactly when document 01 says so. One way, only the row of an answer has it, for each answer is one
--- case's; the other way, its row allows it, and what is allowed is settled. Assumes nothing.
+-- Each answer of `tables` is given exactly when document 01 says so. One way, only the row of an answer has it, for each answer is
+-- one case's; the other way, its row allows it, and what is allowed is settled. Assumes nothing.
 use Prim.Native.Nat.{ℕ}
 use native.Mathlib.Omega.{arith}
 use mathlib.Core.Bool.{Bool, true, false}

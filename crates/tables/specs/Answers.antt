@@ -1,5 +1,6 @@
--- What `tables` answers: every case of document 01, with its number and values. Rows 4 to 7 are those of every call that asks for a grammar
--- and its figures, with the numbers and places of crate answers. When a case is given is said by the promise. Assumes nothing.
+-- What `tables` answers: every case of document 01, with its number and values. Rows 4 to 7 are those of every call that asks for a
+-- grammar and its figures, with the numbers and places of crate answers. When a case is given is said by the promise. Assumes
+-- nothing.
 use Prim.Native.Nat.{ℕ}
 use Rattle.answers.specs.GrammarRefusals.{GrammarRefusal, number, place}
 use Rattle.tables.specs.declared.TableAnswer.{TableAnswer}

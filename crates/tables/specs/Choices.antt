@@ -1,6 +1,6 @@
--- For the private functions of choices: a choice for each nonterminal, a word of an array: its chosen rule, or its context rule and place as
--- one number, 32 times the rule and the place. And what noting one does. Nobody has to believe this file; the promises do not cite it.
--- Assumes nothing.
+-- For the private functions of choices: a choice for each nonterminal, a word of an array: its chosen rule, or its context rule and
+-- place as one number, 32 times the rule and the place. And what noting one does. Nobody has to believe this file; the promises do
+-- not cite it. Assumes nothing.
 use Prim.Native.Nat.{ℕ, _+_, _*_, _≤_, _<_}
 use mathlib.Core.Path.{_≡_}
 use mathlib.Core.List.{List}
@@ -8,7 +8,7 @@ use lib.ListN.{length, getD, set, replicate}
 use Rattle.grammar.specs.Words.{Grammar, RuleAt, InBounds}
 use Rattle.grammar.specs.Certificates.{Holds}
 use Rattle.entries.specs.Table.{noChoice}
-use Rattle.tables.specs.Figures.{figure}
+use Rattle.figures.specs.Figures.{figure}
 
 abbrev pub choice : List ℕ → ℕ → ℕ
 choice xs A = getD xs A noChoice

@@ -8,7 +8,8 @@ use lib.ListN.{length, set}
 use Rattle.grammar.specs.Words.{Grammar, RuleAt}
 use Rattle.grammar.specs.Terms.{measure}
 use Rattle.grammar.specs.Certificates.{Holds, othersSize}
-use Rattle.tables.specs.Figures.{noFigure, figure, Has, capped, Lowered, LeastsDone, SizesOf, ContextsSound, ContextQuiet}
+use Rattle.figures.specs.Figures.{noFigure, figure, Has, capped, Lowered}
+use Rattle.tables.specs.ContextFigures.{LeastsDone, SizesOf, ContextsSound, ContextQuiet}
 use Rattle.layout.specs.View.{View}
 
 -- Over leasts vs, where the symbols below n are nonterminals and whole is the size of a rule and the context of its left side: a

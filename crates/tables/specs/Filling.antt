@@ -1,6 +1,5 @@
--- For the private functions of fill: the figures that a table is filled with, as they stand in the arrays that they are worked out in.
--- Nobody has to believe this file; the promises do not cite it.
--- Assumes nothing.
+-- For the private functions of fill: the figures that a table is filled with, as they stand in the arrays that they are worked out
+-- in. Nobody has to believe this file; the promises do not cite it. Assumes nothing.
 use Prim.Native.Nat.{ℕ, _/_, _%_, _≤_}
 use mathlib.Core.List.{List}
 use lib.Dec.{eqb}
@@ -8,7 +7,7 @@ use lib.ListN.{length, getD}
 use Rattle.grammar.specs.Certificates.{either, Figures}
 use Rattle.grammar.specs.Terms.{measure}
 use Rattle.entries.specs.Table.{noChoice}
-use Rattle.tables.specs.Figures.{figure}
+use Rattle.figures.specs.Figures.{figure}
 use Rattle.tables.specs.Choices.{choice}
 
 -- the rule and the place of the number 32 k + i; `noChoice` is no number, and stands for both

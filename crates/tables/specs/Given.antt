@@ -1,5 +1,5 @@
--- When each answer of `tables` is given, and what it says of the buffer, without the order of the rows. proofs/Main says of each that it
--- is given exactly then. Assumes nothing.
+-- When each answer of `tables` is given, and what it says of the buffer, without the order of the rows. proofs/Main says of each
+-- that it is given exactly then. Assumes nothing.
 use Prim.Native.Nat.{ℕ, _≤_, _<_}
 use mathlib.Core.Path.{_≡_}
 use mathlib.Core.List.{List}

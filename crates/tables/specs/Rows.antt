@@ -9,8 +9,17 @@ use Rattle.answers.specs.Buffers.{over}
 use Rattle.entries.specs.Writing.{tableOf}
 use Rattle.tables.specs.Choices.{ChosenOf, LeadsOf}
 use Rattle.tables.specs.Filling.{foundIn}
-use Rattle.tables.specs.Figures.{Has, LeastsDone, SizesOf, ContextsRest}
+use Rattle.figures.specs.Figures.{Has}
+use Rattle.tables.specs.ContextFigures.{LeastsDone, SizesOf, ContextsRest}
 use Rattle.layout.specs.View.{View}
+use Rattle.leasts.specs.Promise.{FiguresOf}
+
+-- 4 is passed: the leasts and the sizes are those of crate leasts
+pub record Measured (ws places : List ℕ) (n start rules : ℕ) (vs sizes : List ℕ) : Type 0 where
+  pub grammar : Grammar
+  pub view : View ws places n rules grammar
+  pub first : start ≡ grammar .start
+  pub figures : FiguresOf grammar vs sizes
 
 -- 4 and 5 are passed: every nonterminal has a least, and the rules have their sizes by them
 pub record Grown (ws places : List ℕ) (n start rules : ℕ) (vs sizes : List ℕ) : Type 0 where

@@ -1,26 +1,24 @@
-// The table of a grammar, worked out: the leasts (5), the contexts (6), the totals (7), and only then, where there is room (3),
+// The table of a grammar, worked out from its leasts (5): the contexts (6), the totals (7), and only then, where there is room (3),
 // the choices and the words.
 ghost use mathlib.Core.Path.{_≡_};
 ghost use Rattle.tables.specs.Promise.{Tables};
-ghost use Rattle.layout.specs.View.{Begun};
 ghost use Prim.Native.Nat.{_≤_};
 ghost use lib.ListN.{length};
 ghost use Rattle.entries.specs.Table.{lengthFor, entry};
-ghost use Rattle.tables.specs.Rows.{Grown, Placed, Finished};
+ghost use Rattle.tables.specs.Rows.{Measured, Grown, Placed, Finished};
 use crate::TableAnswer;
 use crate::choices::choose_leads;
 use crate::choices::choose_rules;
 use crate::contexts::context_rounds;
 use crate::contexts::rule_totals;
-use crate::figures::Found;
-use crate::figures::NO_FIGURE;
-use crate::figures::OVER;
-use crate::figures::first_above;
 use crate::fill::fill;
-use crate::leasts::least_rounds;
 use cells::narrow;
 use entries::LIMIT;
 use entries::NO_CHOICE;
+use figures::Found;
+use figures::NO_FIGURE;
+use figures::OVER;
+use figures::first_above;
 
 fn refuse(number: u16, place: usize) -> TableAnswer
     ensures { λ r. ⌜ r ≡ TableAnswer.Refused number place ⌝ }
@@ -35,18 +33,17 @@ pub fn of_grammar(
     n: usize,
     start: usize,
     rules: usize,
+    leasts: &[u16],
+    sizes: &[u32; 256],
     table: &mut [u16],
 ) -> TableAnswer
-    requires { ⌜ Begun (now words) (now places) n start rules ⌝ }
+    requires { ⌜ Measured (now words) (now places) n start rules (now leasts) (now sizes) ⌝ }
     ensures { λ r. ⌜ Tables (now (words .entry)) (now (table .entry)) r (now (table .exit)) ⌝ }
 {
-    let mut leasts = [NO_FIGURE; 128];
-    let mut sizes = [0u32; 256];
-    least_rounds(words, places, n, rules, &mut leasts, &mut sizes);
-    if let Found::At(a) = first_above(&leasts, n, OVER as usize) {
+    if let Found::At(a) = first_above(leasts, n, OVER as usize) {
         return refuse(answers::NO_TREE, a);
     }
-    of_leasts(words, places, n, start, rules, &leasts, &sizes, table)
+    of_leasts(words, places, n, start, rules, leasts, sizes, table)
 }
 
 // 6, and what follows.

@@ -3,12 +3,12 @@ ghost use mathlib.Core.Path.{_≡_};
 ghost use Prim.Native.Nat.{ℕ, _+_, _*_, _≤_, _<_};
 ghost use lib.ListN.{length};
 ghost use Rattle.grammar.specs.Words.{Grammar};
-ghost use Rattle.tables.specs.Figures.{figure};
+ghost use Rattle.figures.specs.Figures.{figure};
 ghost use Rattle.tables.specs.Choices.{NoChoices, ChosenOf, LeadsOf};
 ghost use Rattle.layout.specs.View.{View};
 ghost use Rattle.tables.specs.Choices.{Noted, NotedWhere, LeadsNoted};
-use crate::figures::figure_at;
 use entries::NO_CHOICE;
+use figures::figure_at;
 use layout::rules;
 use layout::words::word;
 

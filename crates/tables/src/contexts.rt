@@ -4,20 +4,26 @@ ghost use mathlib.Core.Path.{_≡_};
 ghost use Prim.Native.Nat.{ℕ, _≤_, _<_};
 ghost use lib.ListN.{length};
 ghost use Rattle.grammar.specs.Words.{Grammar};
-ghost use Rattle.tables.specs.Figures.{Fallen, SizesOf, LeastsDone};
+ghost use Rattle.figures.specs.Weights.{Fallen};
+ghost use Rattle.tables.specs.ContextFigures.{SizesOf, LeastsDone};
 ghost use Rattle.layout.specs.View.{View};
-ghost use Rattle.tables.specs.Figures.{ContextsSound, ContextsRest, TotalsOf};
-ghost use Rattle.tables.specs.ContextSteps.{PlaceStep, PlacesStep, ContextStep, SeenRound, Known};
-use crate::chains::context_turn;
+ghost use Rattle.tables.specs.ContextFigures.{ContextsSound, ContextsRest, TotalsOf};
+ghost use Rattle.tables.specs.ContextSteps.{PlaceStep, PlacesStep, ContextStep, SeenTurn, SeenRound, Known};
+use crate::chains::link;
 use crate::chains::note_rules;
-use crate::figures::Counts;
-use crate::figures::NO_FIGURE;
-use crate::figures::cap;
-use crate::figures::figure_at;
-use crate::figures::in_turn;
 use entries::NO_CHOICE;
+use figures::NO_FIGURE;
+use figures::cap;
+use figures::figure_at;
+use figures::in_turn;
 use layout::rules;
 use layout::words::word;
+
+// How many nonterminals and rules a grammar has.
+pub struct Counts {
+    pub n: usize,
+    pub rules: usize,
+}
 
 // A rule's size, to add to: a cast in a function of its own asks its callers for no proof.
 fn widened(size: u32) -> usize
@@ -70,7 +76,7 @@ fn lower_contexts(
 }
 
 // The same for rule r, where it was not tried yet with the context that its left side has.
-pub fn context_of_rule(
+fn context_of_rule(
     left: usize,
     symbols: &[u16],
     n: usize,
@@ -97,6 +103,42 @@ pub fn context_of_rule(
         leasts,
         contexts,
     )
+}
+
+// The turn of a rule: where a context falls, the rule noted for the last of its symbols is tried next, and so on. 1 where one fell
+// by the first, else 0.
+fn context_turn(
+    words: &[u16],
+    places: &[u16],
+    counts: Counts,
+    sizes: &[u32; 256],
+    owned: &[u16],
+    seen: &mut [u16],
+    first: usize,
+    leasts: &[u16],
+    contexts: &mut [u16],
+) -> usize
+    requires { ⌜ (counts .rules ≤ 256) × ((first < counts .rules) × ((256 ≤ length (now seen)) × (128 ≤ length (now contexts)))) ⌝ }
+    requires { ⌜ ((g : Grammar) × Known (now words) (now places) (counts .n) (counts .rules) (now sizes) (now leasts) g) ⌝ }
+    ensures { λ fell. ⌜ (fell ≤ 1) × Fallen (now (contexts .entry)) (now (contexts .exit)) fell ⌝ }
+    ensures { λ fell. ⌜ ((g : Grammar) →
+        Known (now (words .entry)) (now (places .entry)) (counts .n) (counts .rules) (now (sizes .entry)) (now (leasts .entry)) g →
+        SeenTurn g (now (leasts .entry)) first (now (contexts .entry)) (now (seen .entry))
+        (now (contexts .exit)) (now (seen .exit)) fell) ⌝ }
+{
+    let mut fell = 0;
+    let mut r = first;
+    while r < counts.rules {
+        let at = rules::index(places, r);
+        let symbols = rules::right(words, at);
+        let left = word(words, at);
+        if context_of_rule(left, symbols, counts.n, sizes[r], r, seen, leasts, contexts) == 0 {
+            return fell;
+        }
+        fell = 1;
+        r = figure_at(owned, link(symbols, counts.n));
+    }
+    fell
 }
 
 // A round over all rules, from the first to the last or back; how many figures fell.

@@ -1,15 +1,13 @@
-// The shortest-tree tables of a grammar: `tables` works one out, by plain rounds over all rules. What the words of a table mean is crate
-// entries' specs/Table; what the call answers is specs/Promise. Whether a lent table is a grammar's is asked of crate table_test.
+// The shortest-tree tables of a grammar: `tables` works one out from the leasts, by plain rounds over all rules. What the words of
+// a table mean is crate entries' specs/Table; what the call answers is specs/Promise. Whether a lent table is a grammar's is asked
+// of crate table_test.
 mod build;
 mod chains;
 mod choices;
 mod contexts;
-mod figures;
 mod fill;
-mod leasts;
 
 ghost use Rattle.tables.specs.Promise.{Tables};
-use layout::judge;
 use layout::judge::LayoutAnswer;
 
 // What `tables` answers: the number of words written, or the refusal's number and place.
@@ -22,8 +20,11 @@ pub enum TableAnswer {
 pub fn tables(words: &[u16], table: &mut [u16]) -> TableAnswer
     ensures { λ r. ⌜ Tables (now (words .entry)) (now (table .entry)) r (now (table .exit)) ⌝ }
 {
-    let reading = judge::read(words);
-    let answer = reading.answer;
+    let found = leasts::leasts(words);
+    let answer = found.answer;
+    let places = found.places;
+    let leasts = found.leasts;
+    let sizes = found.sizes;
     match answer {
         LayoutAnswer::Fault { place } => TableAnswer::Refused {
             number: answers::BROKEN_LAYOUT,
@@ -34,6 +35,15 @@ pub fn tables(words: &[u16], table: &mut [u16]) -> TableAnswer
             terminals: _,
             start,
             rules,
-        } => build::of_grammar(words, &reading.places, nonterminals, start, rules, table),
+        } => build::of_grammar(
+            words,
+            &places,
+            nonterminals,
+            start,
+            rules,
+            &leasts,
+            &sizes,
+            table,
+        ),
     }
 }

@@ -1,4 +1,5 @@
--- `tables::build::finish` meets its contract: the choices are the first that fit, and the table is filled with them. Assumes nothing.
+-- `tables::build::finish` meets its contract: the choices are the first that fit, and the table is filled with them. Assumes
+-- nothing.
 use mathlib.Core.Path.{refl}
 use native.Mathlib.Omega.{arith}
 use Rattle.layout.proofs.WordsRead.{view-few}
@@ -30,17 +31,21 @@ slice-aggregate-fill-2 c = search needs
 
 fill-requires : tie.Need-fill-requires
 fill-requires c κs =
-    let p = c .before .before .before .before .before .before .before .before .before .before .before .before .before .before .pre .0 in
+    let chosen = c .before .before .before .before .before .before .before .before in
+    let start = chosen .before .before .before .before .before .before in
+    let p = start .pre .0 in
     let few = view-few (p .view) in
-    ((omega (arith, few), omega (arith, few), c .before .before .before .before .before .before .before .before .before .before .before .before .before .before .pre .1), all-placed p (omega (arith, few)) (omega (arith, few)))
+    ((omega (arith, few), omega (arith, few), start .pre .1), all-placed p (omega (arith, few)) (omega (arith, few)))
 
 same-length : tie.Need-same-length
 same-length c = search needs
 
 returns : tie.Need-returns
 returns c =
-    finished _ _ (λ g view. c .before .before .before .before .before .before .before .before .before .before .choose-rules .ensures g _ view refl)
-    (λ g view. c .before .before .before .before .before .before .before .choose-leads .ensures g view refl) (c .before .before .fill .ensures)
+    let leads = c .before .before .before .before .before .before .before in
+    let chosen = leads .before .before .before in
+    finished _ _ (λ g view. chosen .choose-rules .ensures g _ view refl) (λ g view. leads .choose-leads .ensures g view refl)
+    (c .before .before .fill .ensures)
 
 pub finish-spec : {M : Type 1} → statement M
 finish-spec =

@@ -1,8 +1,6 @@
 -- `tables::build::of_contexts` meets its contract: rows 7 and 3, or the table, by Outcomes. Assumes nothing.
-use Prim.Native.Nat.{ℕ}
-use mathlib.Core.Path.{_≡_, _∙_}
+use mathlib.Core.Path.{_∙_}
 use native.Mathlib.Omega.{arith}
-use Rattle.entries.specs.Table.{lengthFor}
 use Rattle.layout.proofs.WordsRead.{view-few}
 use Rattle.tables.proofs.Outcomes.{refuses-7, refuses-3, finishes}
 use borrow.Author.Needs.{needs}
@@ -29,8 +27,10 @@ refuse-requires c κs = search needs
 
 returns : tie.Need-returns
 returns c =
-    let p = c .before .before .before .before .before .before .before .before .before .before .before .before .before .before .pre in
-    refuses-7 p (c .before .before .before .before .before .before .before .rule-totals .ensures (p .grammar) _ (p .view)) (search needs) (c .before .before .before .before .first-above .ensures)
+    let searched = c .before .before .before .before in
+    let summed = searched .before .before .before in
+    let p = summed .before .before .before .before .before .before .before .pre in
+    refuses-7 p (summed .rule-totals .ensures (p .grammar) _ (p .view)) (search needs) (searched .first-above .ensures)
     (c .before .before .r .given .1) (c .refuse .ensures)
 
 enum-told : tie.Need-enum-told
@@ -50,32 +50,42 @@ refuse-requires-2 c κs = search needs
 
 returns-2 : tie.Need-returns-2
 returns-2 c =
-    let p = c .before .before .before .before .before .before .before .before .before .before .before .before .before .before .before .before .before .pre in
+    let told = c .before .before .before .before .before in
+    let searched = told .before .before in
+    let summed = searched .before .before .before in
+    let p = summed .before .before .before .before .before .before .before .pre in
     let few = view-few (p .view) in
     let n = c .before .before .before .before .narrow .ensures .1 (omega (arith, few)) in
     let rules = c .before .before .before .narrow2 .ensures .1 (omega (arith, few)) in
-    refuses-3 p (c .before .before .before .before .before .before .before .before .before .before .rule-totals .ensures (p .grammar) _ (p .view)) (search needs) (c .before .before .before .before .before .before .before .first-above .ensures)
-    (c .before .before .before .before .before .enum-told .given .1) (c .before .before .length .ensures ∙ rw (n, rules)) (c .before .if1 .taken) (c .refuse2 .ensures)
+    refuses-3 p (summed .rule-totals .ensures (p .grammar) _ (p .view)) (search needs) (searched .first-above .ensures)
+    (told .enum-told .given .1) (c .before .before .length .ensures ∙ rw (n, rules)) (c .before .if1 .taken) (c .refuse2 .ensures)
 
 finish-requires : tie.Need-finish-requires
 finish-requires c κs =
-    let p = c .before .before .before .before .before .before .before .before .before .before .before .before .before .before .before .before .before .before .pre in
+    let long = c .before .before .before in
+    let summed = long .before .before .before .before .before .before .before .before in
+    let p = summed .before .before .before .before .before .before .before .pre in
     let few = view-few (p .view) in
-    let n = c .before .before .before .before .before .narrow .ensures .1 (omega (arith, few)) in
-    let rules = c .before .before .before .before .narrow2 .ensures .1 (omega (arith, few)) in
-    (p, omega (arith, c .before .before .before .length .ensures, n, rules, c .before .before .if1 .left))
+    let n = long .before .before .narrow .ensures .1 (omega (arith, few)) in
+    let rules = long .before .narrow2 .ensures .1 (omega (arith, few)) in
+    (p, omega (arith, long .length .ensures, n, rules, c .before .before .if1 .left))
 
 same-length : tie.Need-same-length
 same-length c = search needs
 
 returns-3 : tie.Need-returns-3
 returns-3 c =
-    let p = c .before .before .before .before .before .before .before .before .before .before .before .before .before .before .before .before .before .before .before .before .before .pre in
+    let long = c .before .before .before .before .before .before in
+    let told = long .before .before .before in
+    let searched = told .before .before in
+    let summed = searched .before .before .before in
+    let p = summed .before .before .before .before .before .before .before .pre in
     let few = view-few (p .view) in
-    let n = c .before .before .before .before .before .before .before .before .narrow .ensures .1 (omega (arith, few)) in
-    let rules = c .before .before .before .before .before .before .before .narrow2 .ensures .1 (omega (arith, few)) in
-    finishes p (c .before .before .before .before .before .before .before .before .before .before .before .before .before .before .rule-totals .ensures (p .grammar) _ (p .view)) (search needs) (c .before .before .before .before .before .before .before .before .before .before .before .first-above .ensures)
-    (c .before .before .before .before .before .before .before .before .before .enum-told .given .1) (c .before .before .before .before .before .before .length .ensures ∙ rw (n, rules)) (c .before .before .before .before .before .if1 .left) (c .before .before .finish .ensures)
+    let n = long .before .before .narrow .ensures .1 (omega (arith, few)) in
+    let rules = long .before .narrow2 .ensures .1 (omega (arith, few)) in
+    finishes p (summed .rule-totals .ensures (p .grammar) _ (p .view)) (search needs) (searched .first-above .ensures)
+    (told .enum-told .given .1) (long .length .ensures ∙ rw (n, rules)) (c .before .before .before .before .before .if1 .left)
+    (c .before .before .finish .ensures)
 
 pub of-contexts-spec : {M : Type 1} → statement M
 of-contexts-spec =

@@ -21,8 +21,11 @@ index-requires c κs = search needs
 word-requires : tie.Need-word-requires Inv-loop μ-loop
 word-requires c κs = search needs
 
-note-requires : tie.Need-note-requires Inv-loop μ-loop
-note-requires c κs = search needs
+narrow-requires : tie.Need-narrow-requires Inv-loop μ-loop
+narrow-requires c κs = search needs
+
+put-requires : tie.Need-put-requires Inv-loop μ-loop
+put-requires c κs = search needs
 
 add-r : tie.Need-add-r Inv-loop μ-loop
 add-r c = search needs
@@ -48,7 +51,8 @@ note-rules-spec =
     loop-holds
     index-requires
     word-requires
-    note-requires
+    narrow-requires
+    put-requires
     add-r
     loop-less
     loop-again

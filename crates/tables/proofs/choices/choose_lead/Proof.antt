@@ -3,7 +3,7 @@ use Prim.Native.Nat.{_<_}
 use native.Mathlib.Omega.{arith}
 use lib.ListN.{length}
 use Rattle.tables.specs.Choices.{does, does-not, noted, kept}
-use Rattle.tables.proofs.FiguresFall.{figure-is}
+use Rattle.figures.proofs.FiguresFall.{figure-is}
 use borrow.Author.Needs.{needs}
 use Rattle.tables.proofs.choices.choose_lead.Statement.{statement}
 use Rattle.tables.proofs.choices.choose_lead.Tie as tie

@@ -64,8 +64,9 @@ loop-again c =
     let chose = c .before .before .choose-leads-of in
     let right = c .before .before .before .before .before .right in
     let at = c .before .before .before .before .before .before .index in
-    let loop = c .before .before .before .before .before .before .before .before .loop in
-    let a = c .before .before .before .before .before .before .before .before .before .before .before .before .before .before .args in (
+    let step = c .before .before .before .before .before .before .before .before in
+    let loop = step .loop in
+    let a = step .before .before .before .before .before .before .args in (
       omega arith,
       chose .kept .1 .1 .1 .1 .1 .1 .0 ∙ loop .inv .1,
       λ g view empty.

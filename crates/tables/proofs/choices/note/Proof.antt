@@ -4,7 +4,7 @@ use native.Mathlib.Omega.{arith}
 use borrow.Author.Needs.{needs}
 use lib.ListN.{length}
 use Rattle.tables.specs.Choices.{noted, kept}
-use Rattle.tables.proofs.FiguresFall.{figure-is}
+use Rattle.figures.proofs.FiguresFall.{figure-is}
 use Rattle.tables.proofs.choices.note.Statement.{statement}
 use Rattle.tables.proofs.choices.note.Tie as tie
 

@@ -5,9 +5,9 @@ use Prim.Native.Nat.{ℕ, _+_, _≤_, _<_}
 use native.Mathlib.Omega.{arith}
 use borrow.Author.Needs.{needs}
 use lib.ListN.{length, set}
-use Rattle.tables.specs.Figures.{figure}
+use Rattle.figures.specs.Figures.{figure}
 use Rattle.tables.specs.ContextSteps.{PlacesStep, ContextStep, as-seen, unseen}
-use Rattle.tables.proofs.FiguresFall.{figure-is}
+use Rattle.figures.proofs.FiguresFall.{figure-is}
 use Rattle.tables.proofs.contexts.context_of_rule.Statement.{statement}
 use Rattle.tables.proofs.contexts.context_of_rule.Tie as tie
 

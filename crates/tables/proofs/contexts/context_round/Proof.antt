@@ -29,7 +29,7 @@ context-turn-requires c κs =
     let p = start .before .before .pre .0 in
     let seen : 256 ≤ length (at .before .loop .seen) = omega (arith, p .1 .0, at .before .loop .inv .same-seen) in
     let long : 128 ≤ length (at .before .loop .contexts) = omega (arith, p .1 .1, at .before .loop .inv .same-length) in
-    ((p .0, (in-turn .in-turn .ensures .1, (seen, long))), start .before .before .pre .1)
+    ((p .0, (in-turn .in-turn .ensures .1 (in-turn .before .if1 .taken), (seen, long))), start .before .before .pre .1)
 
 add-fell : tie.Need-add-fell Inv-loop μ-loop
 add-fell c = search needs

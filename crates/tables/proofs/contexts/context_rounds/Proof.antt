@@ -5,7 +5,7 @@ use mathlib.Core.Path.{_≡_, refl, _∙_}
 use native.Mathlib.Omega.{arith}
 use lib.ListN.{length}
 use Rattle.grammar.specs.Words.{Grammar}
-use Rattle.tables.specs.Figures.{weight}
+use Rattle.figures.specs.Weights.{weight}
 use Rattle.tables.specs.ContextSteps.{Known}
 use Rattle.tables.proofs.SeenRounds.{SeenRounds, rounds-none, rounds-more, outset}
 use borrow.Author.Needs.{needs}

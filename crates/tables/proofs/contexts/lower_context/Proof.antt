@@ -6,9 +6,9 @@ use Prim.Native.Nat.{ℕ, _-_, _<_}
 use native.Mathlib.Omega.{arith}
 use borrow.Author.Needs.{needs}
 use lib.ListN.{length, set}
-use Rattle.tables.specs.Figures.{figure, capped, Lowered, fell, stayed}
+use Rattle.figures.specs.Figures.{figure, capped, Lowered, fell, stayed}
 use Rattle.tables.specs.ContextSteps.{skipped, tried}
-use Rattle.tables.proofs.FiguresFall.{figure-is}
+use Rattle.figures.proofs.FiguresFall.{figure-is}
 use Rattle.tables.proofs.contexts.lower_context.Statement.{statement}
 use Rattle.tables.proofs.contexts.lower_context.Tie as tie
 

@@ -5,8 +5,8 @@ use Prim.Native.Nat.{ℕ, _-_, _≤_, _<_}
 use native.Mathlib.Omega.{arith}
 use borrow.Author.Needs.{needs}
 use lib.ListN.{length, length-set, getD}
-use Rattle.tables.specs.Figures.{figure}
-use Rattle.tables.proofs.WrittenInOrder.{written-more}
+use Rattle.figures.specs.Figures.{figure}
+use Rattle.figures.proofs.WrittenInOrder.{written-more}
 use Rattle.tables.proofs.RuleTotals.{totalAt, totals-of}
 use Rattle.tables.proofs.contexts.rule_totals.Statement.{statement}
 use Rattle.tables.proofs.contexts.rule_totals.Tie as tie

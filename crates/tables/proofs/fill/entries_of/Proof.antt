@@ -1,9 +1,8 @@
 -- `tables::fill::entries_of` meets its contract. Assumes nothing.
-use Prim.Native.Nat.{ℕ}
-use mathlib.Core.Path.{_≡_, ap, _∙_}
+use mathlib.Core.Path.{ap, _∙_}
 use native.Mathlib.Omega.{arith}
 use Rattle.tables.specs.Filling.{contextRule, contextPlace, foundIn}
-use Rattle.tables.proofs.FiguresFall.{figure-is}
+use Rattle.figures.proofs.FiguresFall.{figure-is}
 use Rattle.tables.proofs.FirstsNoted.{choice-is}
 use borrow.Author.Needs.{needs}
 use Rattle.tables.proofs.fill.entries_of.Statement.{statement}

@@ -22,8 +22,8 @@ returns c =
     let F = foundIn (a .leasts .now) (a .chosen .now) (a .contexts .now) (a .leads .now) (a .totals .now) in
     let entered = c .before .before .before .before .before .before .fill-entries .ensures (a .totals .now) (a .rules) room in
     all-written (a .n) (a .rules) F (a .table .now) room
-    (c .before .before .fill-totals .ensures (a .leasts .now) (a .chosen .now) (a .contexts .now) (a .leads .now) (a .table .now) room
-    (all-entered (a .n) (a .rules) F (a .table .now) room entered))
+    (c .before .before .fill-totals .ensures (a .leasts .now) (a .chosen .now) (a .contexts .now) (a .leads .now) (a .table .now)
+    room (all-entered (a .n) (a .rules) F (a .table .now) room entered))
 
 pub fill-spec : {M : Type 1} → statement M
 fill-spec =

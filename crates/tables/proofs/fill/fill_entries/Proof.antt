@@ -1,6 +1,6 @@
--- `tables::fill::fill_entries` meets its contract: the entries of the nonterminals that the loop has passed stand in the table. The measure is the number of
--- those to come. Assumes nothing.
-use Prim.Native.Nat.{ℕ, _-_, _≤_, _<_}
+-- `tables::fill::fill_entries` meets its contract: the entries of the nonterminals that the loop has passed stand in the table. The
+-- measure is the number of those to come. Assumes nothing.
+use Prim.Native.Nat.{ℕ, _-_, _≤_}
 use mathlib.Core.Path.{_≡_, refl, ap, _∙_}
 use mathlib.Core.List.{List}
 use lib.ListN.{length}
@@ -64,13 +64,14 @@ loop-again c =
     let few = c .before .before .before .before .before .before .before .before .before .before .before .before .before .pre .0 in
     let at = c .before .before .before .before .narrow .ensures .1 (omega (arith, below, few)) in
     let stored =
-    c .before .before .write .ensures ∙ ap (λ (k : ℕ). withEntries (loop .table) k (c .before .before .before .entries-of .result)) at ∙
+    c .before .before .write .ensures ∙
+    ap (λ (k : ℕ). withEntries (loop .table) k (c .before .before .before .entries-of .result)) at ∙
     ap (λ (e : Entries). withEntries (loop .table) (loop .a) e) (c .before .before .before .entries-of .ensures) in (
       omega arith,
       search needs,
       λ totals rules room.
-          enter-next (a .n) rules (foundIn (a .leasts .now) (a .chosen .now) (a .contexts .now) (a .leads .now) totals) (a .table .now)
-          room (loop .a) below (loop .inv .2 totals rules room) stored,
+          enter-next (a .n) rules (foundIn (a .leasts .now) (a .chosen .now) (a .contexts .now) (a .leads .now) totals)
+          (a .table .now) room (loop .a) below (loop .inv .2 totals rules room) stored,
     )
 
 same-length : tie.Need-same-length Inv-loop μ-loop

@@ -1,6 +1,6 @@
--- `tables::fill::fill_totals` meets its contract: the totals of the rules that the loop has passed stand in the table. The measure is the number of those to
--- come. Assumes nothing.
-use Prim.Native.Nat.{ℕ, _-_, _≤_, _<_}
+-- `tables::fill::fill_totals` meets its contract: the totals of the rules that the loop has passed stand in the table. The measure
+-- is the number of those to come. Assumes nothing.
+use Prim.Native.Nat.{ℕ, _-_, _≤_}
 use mathlib.Core.Path.{_≡_, refl, ap, _∙_}
 use mathlib.Core.List.{List}
 use lib.ListN.{length, getD}
@@ -56,10 +56,11 @@ loop-again c =
     let p = c .before .before .before .before .before .before .before .before .before .before .pre in
     let n = c .before .before .before .before .before .narrow .ensures .1 (omega (arith, p .0)) in
     let r = c .before .before .before .before .narrow2 .ensures .1 (omega (arith, below, p .1)) in
+    let total = getD (a .totals .now) (loop .r) 0 in
     let stored =
     c .before .before .write-total .ensures ∙
-    ap (λ (k : ℕ). withTotal (loop .table) k (c .before .before .before .before .narrow2 .result) (getD (a .totals .now) (loop .r) 0)) n ∙
-    ap (λ (k : ℕ). withTotal (loop .table) (a .n) k (getD (a .totals .now) (loop .r) 0)) r in (
+    ap (λ (k : ℕ). withTotal (loop .table) k (c .before .before .before .before .narrow2 .result) total) n ∙
+    ap (λ (k : ℕ). withTotal (loop .table) (a .n) k total) r in (
       omega arith,
       search needs,
       λ leasts chosen contexts leads before room so-far.
