@@ -9,12 +9,12 @@ use mathlib.Core.Path.{_≡_}
 use lib.Dec.{ltb}
 use borrow.Author.Tests.{lt-ltb, le-ltb}
 use Rattle.grammar.specs.Certificates.{either}
-use Rattle.entries.specs.Table.{contextIn}
+use Rattle.handout.specs.Listing.{contextBy}
 
 -- how many of the first m nonterminals have a context below x
 unfoldable pub lower : List ℕ → ℕ → ℕ → ℕ
 lower table zero x = 0
-lower table (suc m) x = lower table m x + either (ltb (contextIn table m) x) 1 0
+lower table (suc m) x = lower table m x + either (ltb (contextBy table m) x) 1 0
 
 one-few : (c x : ℕ) → either (ltb c x) 1 0 ≤ 1
 one-few c x = go (decLt c x)
@@ -34,29 +34,29 @@ module _ (table : List ℕ) where
   lower-few : (m x : ℕ) → lower table m x ≤ m
   unfolding lower
   lower-few zero x = omega arith
-  lower-few (suc m) x = omega (arith, lower-few m x, one-few (contextIn table m) x)
+  lower-few (suc m) x = omega (arith, lower-few m x, one-few (contextBy table m) x)
 
   lower-grows : (m x y : ℕ) → x ≤ y → lower table m x ≤ lower table m y
   unfolding lower
   lower-grows zero x y h = omega arith
-  lower-grows (suc m) x y h = omega (arith, lower-grows m x y h, one-grows (contextIn table m) x y h)
+  lower-grows (suc m) x y h = omega (arith, lower-grows m x y h, one-grows (contextBy table m) x y h)
 
   -- one less is below a context than below a higher figure: that context itself
-  pub lower-falls : (m B x : ℕ) → B < m → contextIn table B < x → lower table m (contextIn table B) < lower table m x
+  pub lower-falls : (m B x : ℕ) → B < m → contextBy table B < x → lower table m (contextBy table B) < lower table m x
   unfolding lower
   lower-falls zero B x l h = absurd (not-suc-le-zero l)
   lower-falls (suc m) B x l h = go (λ k. lower-falls m B x k h) (ℕ-discrete B m)
     where
-      go : (B < m → lower table m (contextIn table B) < lower table m x) → Dec (B ≡ m) →
-          lower table m (contextIn table B) + either (ltb (contextIn table m) (contextIn table B)) 1 0 <
-          lower table m x + either (ltb (contextIn table m) x) 1 0
+      go : (B < m → lower table m (contextBy table B) < lower table m x) → Dec (B ≡ m) →
+          lower table m (contextBy table B) + either (ltb (contextBy table m) (contextBy table B)) 1 0 <
+          lower table m x + either (ltb (contextBy table m) x) 1 0
       go again (yes e) =
-          let here = contextIn table m in
+          let here = contextBy table m in
           let at-most = lower-grows m here x (omega (arith, rw e at h)) in
           rw (e, le-ltb here here (omega arith), lt-ltb here x (rw e at h)) (omega (arith, at-most))
-      go again (no d) = omega (arith, again (omega arith), one-grows (contextIn table m) (contextIn table B) x (omega arith))
+      go again (no d) = omega (arith, again (omega arith), one-grows (contextBy table m) (contextBy table B) x (omega arith))
 
-  pub lower-within : (m A : ℕ) → A < m → lower table m (contextIn table A) < m
+  pub lower-within : (m A : ℕ) → A < m → lower table m (contextBy table A) < m
   lower-within m A l =
-      let x = suc (contextIn table A) in
+      let x = suc (contextBy table A) in
       omega (arith, lower-falls m A x l (omega arith), lower-few m x)

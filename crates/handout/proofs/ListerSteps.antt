@@ -26,7 +26,7 @@ use Rattle.handout.specs.Listing.{of-nonterminal, SymbolsListing, RuleLi
 use Rattle.handout.specs.Listing.{RuleListed}
 use Rattle.handout.specs.Listing.{SymbolsListed}
 use Rattle.handout.proofs.Listings.{and-then, nothing, one-more, sizes-more, sizes-within}
-use Rattle.handout.proofs.SizesByTable.{terminal-size, ChosenRule, chosen-rule}
+use Rattle.handout.proofs.SizesByTable.{terminal-takes-one, ChosenRule, chosen-rule}
 
 -- the parts keep their lengths
 module _ {P : List ℕ → List ℕ → Type 0} {a b x y : List ℕ} {p q : Lengths} (h : Stretch P a b x y p q) where
@@ -120,7 +120,7 @@ module _ (words places table : List ℕ) (n : ℕ) where
   pub token-listed : (s : ℕ) (a b x : List ℕ) (p q : Lengths) → n ≤ s → b ≡ set a (p .tokens) s → q ≡ oneToken p →
       SymbolListed words places table n s a b x x p q
   token-listed s a b x p q h e one = rw one (record {
-    counted = omega (arith, terminal-size n table s h);
+    counted = omega (arith, terminal-takes-one n table s h);
     listed = λ g k. record {
       us = s ∷ [];
       vs = [];

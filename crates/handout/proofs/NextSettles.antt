@@ -81,13 +81,13 @@ module _ (words table : List ℕ) (before : Lent) where
     record { marks = marks; tokens = over s (before .tokens); rules = over d (before .rules) },
   )
 
-  data Sentence (g : Grammar) : Out → Type 0 where
-    hands : {r : ℕ} {s d marks : List ℕ} → TargetListing g (before .marks) r s d → Marked d (before .marks) marks →
-        Sentence g (handed r s d marks)
+  data NextRow (g : Grammar) : Out → Type 0 where
+    next-row : {r : ℕ} {s d marks : List ℕ} → TargetListing g (before .marks) r s d → Marked d (before .marks) marks →
+        NextRow g (handed r s d marks)
 
   -- the rows of an accepted grammar g as gates: 8, 9, Finished, 3, 10, next
   abbrev FromTen : Grammar → Out → Type 0
-  FromTen g = Gate (DerivationShort g) (DerivationFits g) (λ n. keeping (derivation-short n)) (Sentence g)
+  FromTen g = Gate (DerivationShort g) (DerivationFits g) (λ n. keeping (derivation-short n)) (NextRow g)
 
   abbrev FromThree : Grammar → Out → Type 0
   FromThree g = Gate (SentenceShort g) (SentenceFits g) (λ n. keeping (too-short n)) (FromTen g)
@@ -117,8 +117,8 @@ module _ (words table : List ℕ) (before : Lent) where
   rules-apart : (g : Grammar) (n : ℕ) → DerivationShort g n → DerivationFits g → ⊥
   rules-apart g _ (short-rules a h) (fit-rules b k) = omega (arith, ap length (derivation-same a b))
 
-  sentence-settles : (g : Grammar) → Settles (Sentence g)
-  sentence-settles g _ _ (hands {marks = m} a h) (hands {marks = m′} b k) =
+  next-row-settles : (g : Grammar) → Settles (NextRow g)
+  next-row-settles g _ _ (next-row {marks = m} a h) (next-row {marks = m′} b k) =
       let same : m ≡ m′ = mark-rules-settles h (rw (derivation-same a b) k) in
       rw (target-same a b, sentence-same a b, derivation-same a b, same) refl
 
@@ -130,7 +130,7 @@ module _ (words table : List ℕ) (before : Lent) where
       (λ x a b. a (b .0) (b .1 .such .rule) (b .1 .such .zero))
       (gate-settles (λ n. keeping (too-short n)) (short-unique g) (short-apart g)
       (gate-settles (λ n. keeping (derivation-short n)) (rules-unique g) (rules-apart g)
-      (sentence-settles g)))))
+      (next-row-settles g)))))
 
   abbrev refuse : GrammarRefusal → Out
   refuse x = keeping (of-words x)
@@ -147,7 +147,7 @@ module _ (words table : List ℕ) (before : Lent) where
   rows (row-finished e a t l u) = accepted e a (go t (go l (stop {x = tt} u)))
   rows (row-3 w l) = wanted w (stop (short (listed w) l))
   rows (row-10 w l m) = wanted w (go (fits (listed w) l) (stop (short-rules (listed w) m)))
-  rows (row-next w l m k) = wanted w (go (fits (listed w) l) (go (fit-rules (listed w) m) (hands (listed w) k)))
+  rows (row-next w l m k) = wanted w (go (fits (listed w) l) (go (fit-rules (listed w) m) (next-row (listed w) k)))
 
   -- AT MOST ONE
   pub next-settles : {a a′ : NextAnswer} {after after′ : Lent} →

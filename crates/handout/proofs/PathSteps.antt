@@ -14,9 +14,9 @@ use Rattle.grammar.specs.Tree.{Open}
 use Rattle.grammar.specs.Terms.{measure}
 use Rattle.grammar.specs.Least.{ChosenOpen}
 use Rattle.grammar.proofs.RuleNumbers.{rule-number}
-use Rattle.entries.specs.Table.{contextIn, ruleIn, placeIn}
+use Rattle.entries.specs.Table.{ruleIn, placeIn}
 use Rattle.handout.specs.declared.lister.Lengths.{Lengths}
-use Rattle.handout.specs.Listing.{TableView, SymbolsListed}
+use Rattle.handout.specs.Listing.{TableView, contextBy, SymbolsListed}
 use Rattle.handout.specs.TreeListing.{FrontReady, BackReady, backOf, FrontListed, upper, climbed, PathOf, before, after}
 use Rattle.handout.specs.TreeListing.{SideReady, SideListed, ClimbReady}
 use Rattle.handout.proofs.FewContexts.{lower, lower-falls, lower-within}
@@ -28,7 +28,7 @@ use Rattle.handout.proofs.TreeListerSteps.{back-ready, after-ready, aft
 pub record LedUp (table : List ℕ) (n : ℕ) (g : Grammar) (A steps a : ℕ) : Type 0 where
   pub above : Open g a
   pub follows : ChosenOpen measure g above
-  pub fallen : steps + lower table n (contextIn table a) ≤ lower table n (contextIn table A)
+  pub fallen : steps + lower table n (contextBy table a) ≤ lower table n (contextBy table A)
 
 -- what the climb keeps: a is so many steps up from A, and those below it stand on the path
 pub record OnWay (words places table : List ℕ) (start A : ℕ) (path : List ℕ) (a steps : ℕ) : Type 0 where
@@ -109,7 +109,7 @@ module _ {words places table : List ℕ} {start A : ℕ} {path : List ℕ} {a st
       pub way-number : ruleIn table a < R (ready .g)
       way-number = rule-number (above .rule)
 
-      pub way-falls : contextIn table (upper words places table a) < contextIn table a
+      pub way-falls : contextBy table (upper words places table a) < contextBy table a
       way-falls = above .falls
 
 -- over a path

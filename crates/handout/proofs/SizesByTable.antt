@@ -22,13 +22,16 @@ use Rattle.grammar.proofs.Unique.{least-unique, context-unique, total-unique}
 use Rattle.entries.specs.Table.{leastIn, chosenIn, contextIn, ruleIn, placeIn, totalIn}
 use Rattle.entries.proofs.Main.{least-front, chosen-front, context-front, rule-front, place-front, total-front, total-fits}
 use Rattle.layout.proofs.RulesInView.{viewed-right}
-use Rattle.handout.specs.Listing.{TableView, sizeBy, sizesBy, rightOf}
+use Rattle.handout.specs.Listing.{TableView, sizeBy, sizesBy, contextBy, rightOf}
 use Rattle.handout.specs.TreeListing.{before, after, sizeOn}
 
 module _ (n : ℕ) (table : List ℕ) (s : ℕ) where
-  pub terminal-size : n ≤ s → sizeBy n table s ≡ 1
+  terminal-size : n ≤ s → sizeBy n table s ≡ 1
   unfolding sizeBy
   terminal-size h = rw (le-ltb s n h)
+
+  pub terminal-takes-one : n ≤ s → 1 ≤ sizeBy n table s
+  terminal-takes-one h = omega (arith, terminal-size h)
 
   nonterminal-size : s < n → sizeBy n table s ≡ leastIn table s
   unfolding sizeBy
@@ -45,7 +48,7 @@ module _ {words places table : List ℕ} {n : ℕ} {g : Grammar} (known : TableV
   pub known-choice : (A : ℕ) → A < g .N → ¬ (A ≡ g .start) → ContextChoice measure g A (ruleIn table A) (placeIn table A)
   known-choice A lt d = rw (rule-front g table A lt, place-front g table A lt) at (known .tabled .choices A lt d)
 
-  -- a symbol takes as much
+  -- what a symbol takes
   terminal-within : {s : ℕ} → g .N ≤ s → sizeBy n table s ≤ 1
   terminal-within {s} p = let le : n ≤ s = omega (arith, known .view .nonterminals) in omega (arith, terminal-size n table s le)
 
@@ -54,17 +57,17 @@ module _ {words places table : List ℕ} {n : ℕ} {g : Grammar} (known : TableV
       let low : s < n = omega (arith, known .view .nonterminals) in
       omega (arith, nonterminal-size n table s low, least-unique h (known-least s lt))
 
-  -- some symbols, and those before and after a place
-  sizes-within : {w : List ℕ} {x : ℕ} → Sizes measure g w x → sizesBy n table w ≤ x
+  -- what some symbols take, and those before and after a place
+  symbols-within : {w : List ℕ} {x : ℕ} → Sizes measure g w x → sizesBy n table w ≤ x
   unfolding sizesBy
-  sizes-within no-symbols = omega arith
-  sizes-within (terminal p h) = omega (arith, terminal-within p, sizes-within h)
-  sizes-within (nonterminal lt y h) = omega (arith, least-within lt y, sizes-within h)
+  symbols-within no-symbols = omega arith
+  symbols-within (terminal p h) = omega (arith, terminal-within p, symbols-within h)
+  symbols-within (nonterminal lt y h) = omega (arith, least-within lt y, symbols-within h)
 
   beside-within : {w : List ℕ} {i A x : ℕ} → Beside measure g w i A x →
       sizesBy n table (take i w) + sizesBy n table (drop (suc i) w) ≤ x
   unfolding sizesBy
-  beside-within (at-place p h) = omega (arith, sizes-within h)
+  beside-within (at-place p h) = omega (arith, symbols-within h)
   beside-within (past-terminal p h) = omega (arith, terminal-within p, beside-within h)
   beside-within (past-nonterminal lt y h) = omega (arith, least-within lt y, beside-within h)
 
@@ -84,39 +87,39 @@ module _ {words places table : List ℕ} {n : ℕ} {g : Grammar} (known : TableV
       record {
         rule = rw right (a .rule);
         chosen = c;
-        size = omega (arith, nonterminal-size n table s h, figure, a .is, sizes-within (a .sizes), ap (sizesBy n table) right);
+        size = omega (arith, nonterminal-size n table s h, figure, a .is, symbols-within (a .sizes), ap (sizesBy n table) right);
       }
 
   -- CONTEXT: that of the left side of the context rule, and the rule's symbols beside the leaf
   pub choice-within : {A B k i : ℕ} {w : List ℕ} → A < g .N → RuleAt g k B w → ContextChoice measure g A k i →
-      contextIn table B + (1 + (sizesBy n table (take i w) + sizesBy n table (drop (suc i) w))) ≤ contextIn table A
+      contextBy table B + (1 + (sizesBy n table (take i w) + sizesBy n table (drop (suc i) w))) ≤ contextBy table A
   choice-within {A} {B} {k} {i} {w} lt r h =
       let c = h .attains in
       let left : B ≡ c .B = rule-left refl r (c .rule) in
       let right : w ≡ c .w = rule-right refl r (c .rule) in
-      let outer : contextIn table B ≡ c .outer = context-unique (known-context B (r .left)) (rw (← left) at (c .context)) in
-      let figure : contextIn table A ≡ h .figure = context-unique (known-context A lt) (h .context) in
+      let outer : contextBy table B ≡ c .outer = context-unique (known-context B (r .left)) (rw (← left) at (c .context)) in
+      let figure : contextBy table A ≡ h .figure = context-unique (known-context A lt) (h .context) in
       let others = rw (← right) at (beside-within (c .beside)) in
       omega (arith, outer, figure, c .is, others)
 
   pub open-within : {A : ℕ} (x : Open g A) → ChosenOpen measure g x →
-      sizeOn n table before x + sizeOn n table after x ≤ contextIn table A
+      sizeOn n table before x + sizeOn n table after x ≤ contextBy table A
   open-within root h = omega arith
   open-within (down k r x a) h = omega (arith, choice-within (gap-nonterminal a) r (h .0), open-within x (h .1))
 
   -- TOTAL: the context of the left side, and the rule
-  known-total : (r : ℕ) → r < R g → totalIn n table r ≡ totalIn (g .N) table r
-  known-total r l = ap (λ (m : ℕ). totalIn m table r) (known .view .nonterminals)
+  known-total : (r : ℕ) → totalIn n table r ≡ totalIn (g .N) table r
+  known-total r = ap (λ (m : ℕ). totalIn m table r) (known .view .nonterminals)
 
-  pub total-within : {r A : ℕ} {w : List ℕ} → RuleAt g r A w → contextIn table A + (1 + sizesBy n table w) ≤ totalIn n table r
+  pub total-within : {r A : ℕ} {w : List ℕ} → RuleAt g r A w → contextBy table A + (1 + sizesBy n table w) ≤ totalIn n table r
   total-within {r} {A} {w} rule =
       let l = rule-number rule in
       let t = known .tabled .totals r l in
       let left : A ≡ t .A = rule-left refl rule (t .rule .rule) in
       let right : w ≡ t .rule .w = rule-right refl rule (t .rule .rule) in
-      let outer : contextIn table A ≡ t .outer = context-unique (known-context A (rule .left)) (rw (← left) at (t .context)) in
-      let size = rw (← right) at (sizes-within (t .rule .sizes)) in
-      omega (arith, known-total r l, total-front g table r l, t .is, outer, t .rule .is, size)
+      let outer : contextBy table A ≡ t .outer = context-unique (known-context A (rule .left)) (rw (← left) at (t .context)) in
+      let size = rw (← right) at (symbols-within (t .rule .sizes)) in
+      omega (arith, known-total r, total-front g table r l, t .is, outer, t .rule .is, size)
 
   -- and the tree of the rule has no more numbers, which are at most 4,096
   pub tree-within : {r : ℕ} {t : Tree g (g .start)} → TreeOf measure g r t →
@@ -124,9 +127,9 @@ module _ {words places table : List ℕ} {n : ℕ} {g : Grammar} (known : TableV
   tree-within {r} {t} tree =
       let l = rule-number (tree .rule) in
       let is = total-unique (tree-of-total measure tree) (known .tabled .totals r l) in
-      omega (arith, known-total r l, total-front g table r l, is, size-is-length t)
+      omega (arith, known-total r, total-front g table r l, is, size-is-length t)
 
   pub total-few : {r : ℕ} → Accepted limit g → r < R g → totalIn n table r ≤ limit
   total-few {r} a l =
       let few = total-fits (in-bounds words (known .view .is)) (a .fit) (known .tabled) r l in
-      omega (arith, known-total r l, total-front g table r l, few)
+      omega (arith, known-total r, total-front g table r l, few)

@@ -13,10 +13,10 @@ use Rattle.grammar.proofs.Dead.{gap-nonterminal}
 use Rattle.grammar.proofs.LayoutExact.{in-bounds}
 use Rattle.grammar.proofs.RuleNumbers.{rule-number}
 use Rattle.grammar.proofs.Unique.{choice-unique}
-use Rattle.entries.specs.Table.{contextIn, ruleIn, placeIn}
+use Rattle.entries.specs.Table.{ruleIn, placeIn}
 use Rattle.layout.proofs.RulesInView.{viewed-left, viewed-right}
 use Rattle.handout.specs.declared.lister.Lengths.{Lengths}
-use Rattle.handout.specs.Listing.{TableView, sizesBy, rightOf, Wrote, SymbolsListed}
+use Rattle.handout.specs.Listing.{TableView, contextBy, sizesBy, rightOf, Wrote, SymbolsListed}
 use Rattle.handout.specs.TreeListing.{Beside, backOf, FrontReady, BackReady, FrontListed, upper, Side, before, after}
 use Rattle.handout.specs.TreeListing.{gapTokens, gapRules, tokensOn, rulesOn, sizeOn, SideReady, SideListed}
 use Rattle.handout.proofs.Listings.{and-then, nothing}
@@ -33,7 +33,7 @@ module _ {words places table : List ℕ} {n : ℕ} {g : Grammar} (known : TableV
     pub follows : ChosenOpen measure g above
     pub gap : Gap g w i A
     pub chosen : ChosenGap measure g gap
-    pub falls : contextIn table B < contextIn table A
+    pub falls : contextBy table B < contextBy table A
     pub tokens-before : tokensOn before x ≡ tokensOn before above ++ gapTokens before gap
     pub rules-before : rulesOn before x ≡ rulesOn before above ++ (k ∷ gapRules before gap)
     pub tokens-after : tokensOn after x ≡ gapTokens after gap ++ tokensOn after above

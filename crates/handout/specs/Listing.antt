@@ -14,7 +14,7 @@ use Rattle.grammar.specs.Tree.{Tree, Forest, sentence, sentences, derivation, d
 use Rattle.grammar.specs.Terms.{measure, limit}
 use Rattle.grammar.specs.Least.{ChosenTree, ChosenForest}
 use Rattle.grammar.specs.Certificates.{either}
-use Rattle.entries.specs.Table.{leastIn, HasTable}
+use Rattle.entries.specs.Table.{leastIn, contextIn, HasTable}
 use Rattle.layout.specs.View.{View}
 use Rattle.handout.specs.declared.lister.Lengths.{Lengths}
 
@@ -30,6 +30,10 @@ sizeBy n table s = either (ltb s n) (leastIn table s) 1
 unfoldable pub sizesBy : ℕ → List ℕ → List ℕ → ℕ
 sizesBy n table [] = 0
 sizesBy n table (s ∷ w) = sizeBy n table s + sizesBy n table w
+
+-- a context's size by the table, which falls from a nonterminal to the left side of its context rule
+abbrev pub contextBy : List ℕ → ℕ → ℕ
+contextBy table A = contextIn table A
 
 -- the right side of rule k
 abbrev pub rightOf : List ℕ → List ℕ → ℕ → List ℕ

@@ -25,7 +25,7 @@ pub struct Request {
     pub total: usize,
 }
 
-// Notes the nonterminals from a up to the start, which is not noted, by context choices; how many they are.
+// Notes on the path the nonterminals from `from` up to below the start, by context choices; how many they are.
 fn climb(
     words: &[u16],
     places: &[u16],

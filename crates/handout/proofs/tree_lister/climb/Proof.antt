@@ -5,7 +5,7 @@ use native.Mathlib.Omega.{arith}
 use mathlib.Core.Path.{_≡_, refl, ap, _∙_}
 use Prim.Native.Nat.{ℕ}
 use lib.ListN.{length, getD}
-use Rattle.entries.specs.Table.{contextIn}
+use Rattle.handout.specs.Listing.{contextBy}
 use Rattle.handout.proofs.PathSteps.{OnWay, way-begins, way-on, way-ends, way-falls, way-short}
 use Rattle.handout.proofs.tree_lister.climb.Statement.{statement}
 use Rattle.handout.proofs.tree_lister.climb.Tie as tie
@@ -15,7 +15,7 @@ Inv-loop words places table start from path₀ a₀ steps₀ path a steps =
     (length path ≡ length path₀) × OnWay words places table start from path a steps
 
 abbrev μ-loop : tie.MeasureT-loop
-μ-loop words places table start from path₀ a₀ steps₀ path a steps = contextIn table a
+μ-loop words places table start from path₀ a₀ steps₀ path a steps = contextBy table a
 
 loop-holds : tie.Need-loop-holds Inv-loop μ-loop
 loop-holds c =
