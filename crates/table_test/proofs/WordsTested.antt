@@ -2,18 +2,18 @@
 -- `test` by that. Assumes nothing.
 use Prim.Native.Nat.{ℕ, _≤_}
 use native.Mathlib.Omega.{arith}
-use mathlib.Core.Path.{_≡_, ap, _∙_}
+use mathlib.Core.Path.{_≡_, refl, sym, subst, _∙_}
 use mathlib.Core.Bool.{Bool}
 use mathlib.Core.List.{List}
 use Rattle.grammar.specs.Words.{layout, faults, Are}
 use Rattle.grammar.proofs.LayoutExact.{in-bounds, reads-unique}
-use Rattle.layout.specs.Judge.{placesOf}
 use Rattle.layout.specs.View.{View, Begun}
 use Rattle.layout.proofs.WordsRead.{view-few}
 use Rattle.entries.specs.Table.{Own}
 use Rattle.table_test.specs.Passes.{Says}
-use Rattle.table_test.specs.Promise.{Tested, its, not-its, TestPromise}
-use Rattle.table_test.specs.declared.TableTest.the-variants.{Its, NotIts}
+use Rattle.table_test.specs.Promise.{Tested, its, not-its, TestPromise, notIts}
+use Rattle.table_test.specs.declared.TableTest.the-variants.{Its}
+use Rattle.table_test.specs.declared.Testing.{Testing}
 use Rattle.table_test.proofs.Telling.{says-same}
 
 module _ {ws places : List ℕ} {n start rules : ℕ} (p : Begun ws places n start rules) where
@@ -45,10 +45,9 @@ module _ {ws places : List ℕ} {n start rules : ℕ} (p : Begun ws places n sta
     pub own-its : Are ws (Own table) → Tested ws table (Its n start rules)
     own-its z = rw (p .view .nonterminals, p .first, p .view .all-rules) (its (p .view .is) (own-of z))
 
--- of words that are no grammar, for which no place is noted
-pub broken-not-its : {ws table places : List ℕ} {q : ℕ} → layout ws ≡ faults q → places ≡ placesOf (layout ws) →
-    TestPromise ws table (record { answer = NotIts; places = places })
-broken-not-its e noted = record {
-  tested = not-its (λ (g, is, own). let z : _≡_ {A = ℕ} 0 1 = cc in omega arith);
-  stand = noted ∙ ap placesOf e;
-}
+-- of words that are no accepted grammar with its own table, and so of words that are no grammar
+pub other-not-its : {ws table : List ℕ} {r : Testing} → ¬ Are ws (Own table) → r ≡ notIts → TestPromise ws table r
+other-not-its {ws} {table} other e = subst (TestPromise ws table) (sym e) (record { tested = not-its other; stand = refl })
+
+pub broken-not-its : {ws table : List ℕ} {r : Testing} {q : ℕ} → layout ws ≡ faults q → r ≡ notIts → TestPromise ws table r
+broken-not-its e is = other-not-its (λ (g, read, own). let z : _≡_ {A = ℕ} 0 1 = cc in omega arith) is

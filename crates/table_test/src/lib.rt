@@ -3,10 +3,7 @@
 mod passes;
 
 ghost use mathlib.Core.Path.{_≡_};
-ghost use Rattle.grammar.specs.Words.{layout};
-ghost use Rattle.layout.specs.Judge.{placesOf};
-ghost use Rattle.layout.specs.View.{Begun};
-ghost use Rattle.table_test.specs.Promise.{TestPromise};
+ghost use Rattle.table_test.specs.Promise.{TestPromise, notIts};
 use layout::judge;
 use layout::judge::LayoutAnswer;
 
@@ -33,49 +30,36 @@ pub fn test(words: &[u16], table: &[u16]) -> Testing
 {
     let reading = judge::read(words);
     let answer = reading.answer;
-    let places = reading.places;
     match answer {
-        // Of words that are no grammar all places are 0.
         LayoutAnswer::Fault { place: _ } => {
-            return Testing {
-                answer: TableTest::NotIts,
-                places,
-            };
+            return not_its();
         }
         LayoutAnswer::Grammar {
-            nonterminals,
+            nonterminals: n,
             terminals: _,
             start,
             rules,
         } => {
-            return test_grammar(words, places, nonterminals, start, rules, table);
+            if passes::passes(words, &reading.places, n, start, rules, table) {
+                let places = reading.places;
+                return Testing {
+                    answer: TableTest::Its {
+                        nonterminals: n,
+                        start,
+                        rules,
+                    },
+                    places,
+                };
+            }
+            return not_its();
         }
     }
 }
 
-// Of words that are a grammar.
-fn test_grammar(
-    words: &[u16],
-    places: [u16; 256],
-    n: usize,
-    start: usize,
-    rules: usize,
-    table: &[u16],
-) -> Testing
-    requires { ⌜ Begun (now words) places n start rules ⌝ }
-    requires { ⌜ places ≡ placesOf (layout (now words)) ⌝ }
-    ensures { λ r. ⌜ TestPromise (now (words .entry)) (now (table .entry)) r ⌝ }
+// No accepted grammar with its own table: no place is told.
+fn not_its() -> Testing
+    ensures { λ r. ⌜ r ≡ notIts ⌝ }
 {
-    if passes::passes(words, &places, n, start, rules, table) {
-        return Testing {
-            answer: TableTest::Its {
-                nonterminals: n,
-                start,
-                rules,
-            },
-            places,
-        };
-    }
     Testing {
         answer: TableTest::NotIts,
         places: [0u16; 256],
