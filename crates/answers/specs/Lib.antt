@@ -1,4 +1,3 @@
-pub mod Refusals
 pub mod GrammarRefusals
 pub mod Buffers
 pub mod Lists

@@ -8,7 +8,7 @@ use lib.ListN.{length}
 use borrow.Author.Tests.{eqb-true}
 use Rattle.grammar.specs.Words.{Grammar, InBounds}
 use Rattle.grammar.proofs.FigureTest.{figures-certified}
-use Rattle.entries.specs.Table.{tableLength, ruleIn, placeIn, IsTable}
+use Rattle.entries.specs.Table.{tableLength, ruleIn, placeIn, noChoice, IsTable}
 use Rattle.entries.specs.TableCertificates.{figuresOf, Passes, start-words?, passes?}
 use Rattle.entries.proofs.TableTests.{table-tests}
 
@@ -16,12 +16,12 @@ pub passes?-sound : (g : Grammar) (ws : List ℕ) → So (passes? g ws) → Pass
 passes?-sound g ws t =
     let (long, others) = and-eq-true-iff (eqb (length ws) (tableLength g)) _ .0 t in
     let (places, figures) = and-eq-true-iff (start-words? g ws) _ .0 others in
-    let (rule, place) = and-eq-true-iff (eqb (ruleIn ws (g .start)) 65535) _ .0 places in
+    let (rule, place) = and-eq-true-iff (eqb (ruleIn ws (g .start)) noChoice) _ .0 places in
     record {
       long = eqb-true (length ws) (tableLength g) long;
       figures = figures-certified g (figuresOf g ws) figures;
-      start-rule = eqb-true (ruleIn ws (g .start)) 65535 rule;
-      start-place = eqb-true (placeIn ws (g .start)) 65535 place;
+      start-rule = eqb-true (ruleIn ws (g .start)) noChoice rule;
+      start-place = eqb-true (placeIn ws (g .start)) noChoice place;
     }
 
 pub computed-table : {g : Grammar} → InBounds g → (ws : List ℕ) → So (passes? g ws) → IsTable g ws

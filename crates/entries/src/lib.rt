@@ -3,7 +3,7 @@
 // nothing is written.
 ghost use mathlib.Core.Path.{_≡_};
 ghost use Prim.Native.Nat.{_<_};
-ghost use Rattle.entries.specs.Table.{lengthFor, entry, leastIn, chosenIn, contextIn, ruleIn, placeIn, totalIn};
+ghost use Rattle.entries.specs.Table.{lengthFor, leastIn, chosenIn, contextIn, ruleIn, placeIn, totalIn};
 ghost use Rattle.entries.specs.Writing.{withEntries, withTotal};
 use cells::put;
 use cells::read;

@@ -8,9 +8,7 @@ use mathlib.Core.Logic.{_⊎_, inl, inr}
 use mathlib.Core.List.{List}
 use Rattle.answers.specs.GrammarRefusals.{GrammarRefusal}
 use Rattle.answers.specs.GrammarRefusals as row
-use Rattle.answers.specs.Refusals.{Refusal, no-tree, unreached, oversize}
 use Rattle.grammar.specs.Words.{Grammar, layout, reads, faults}
-use Rattle.grammar.specs.Terms as terms
 use Rattle.grammar.specs.Refusals.{Lowest, NoTree, AllTrees, Unreached, AllReached, Oversize, AllFit, Accepted}
 use Rattle.grammar.specs.Rows.{GrammarRefused, row-4, row-5, row-6, row-7}
 use Rattle.grammar.proofs.LayoutExact.{rule-below, reads-unique}
@@ -103,24 +101,3 @@ accepted-settle limit words refuse Rows rows _ o′ (refused a) (accepted e ok b
 accepted-settle limit words refuse Rows rows o _ (accepted e ok a) (refused b) = absurd (refused-or-accepted limit words b e ok)
 accepted-settle limit words refuse Rows rows o o′ (accepted {g = g} e ok a) (accepted e′ ok′ b) =
     rows g o o′ a (subst (λ (k : Grammar). Rows k o′) (reads-unique words e′ e) b)
-
--- For promises that list rows 5 to 7 themselves.
-module _ {Out : Type 0} (answer : Refusal → Out) (g : Grammar) (Rest : Out → Type 0) where
-  abbrev pub FromSeven : Out → Type 0
-  FromSeven = Gate (Lowest (Oversize terms.limit g)) (AllFit terms.limit g) (λ r. answer (oversize r)) Rest
-
-  abbrev pub FromSix : Out → Type 0
-  FromSix = Gate (Lowest (Unreached g)) (AllReached g) (λ A. answer (unreached A)) FromSeven
-
-  abbrev pub FromFive : Out → Type 0
-  FromFive = Gate (Lowest (NoTree g)) (AllTrees g) (λ A. answer (no-tree A)) FromSix
-
-  -- the rows after 7 decide what is accepted
-  pub past-seven : {o : Out} → Accepted terms.limit g → Rest o → FromFive o
-  past-seven a rest = go (a .trees) (go (a .reached) (go (a .fit) rest))
-
-  pub five-settles : Settles Rest → Settles FromFive
-  five-settles rest =
-      gate-settles (λ A. answer (no-tree A)) (λ x y. lowest-unique) (λ x a b. a .such .none (b x (a .such .nonterminal)))
-      (gate-settles (λ A. answer (unreached A)) (λ x y. lowest-unique) (λ x a b. a .such .never (b x (a .such .nonterminal)))
-      (gate-settles (λ r. answer (oversize r)) (λ x y. lowest-unique) (not-fit g) rest))

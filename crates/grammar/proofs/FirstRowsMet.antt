@@ -5,15 +5,12 @@ use mathlib.Core.Path.{_≡_, refl}
 use mathlib.Core.Logic.{_⊎_, inl, inr}
 use mathlib.Core.List.{List}
 use Rattle.answers.specs.GrammarRefusals.{GrammarRefusal}
-use Rattle.answers.specs.Refusals.{Refusal, no-tree, unreached, oversize}
 use Rattle.grammar.specs.Words.{Grammar, Judged, layout, reads, faults, Are, InBounds}
-use Rattle.grammar.specs.Terms as terms
 use Rattle.grammar.specs.Refusals.{Lowest, NoTree, AllTrees, Unreached, AllReached, Oversize, AllFit, Accepted}
 use Rattle.grammar.specs.Rows.{GrammarRefused, row-4, row-5, row-6, row-7}
 use Rattle.grammar.proofs.LayoutExact.{in-bounds}
 use Rattle.grammar.proofs.Decided.{trees?, all-reached?, all-fit?}
-use Rattle.answers.proofs.Gates.{stop, go}
-use Rattle.grammar.proofs.FirstRows.{OfWords, fault, grammar, OfAccepted, refused, accepted, FromFive, FromSix, FromSeven}
+use Rattle.grammar.proofs.FirstRows.{OfWords, fault, grammar, OfAccepted, refused, accepted}
 
 pub words-met : {Out : Type 0} (words : List ℕ) (broken : ℕ → Out) (Rows : Grammar → Out → Type 0) →
     ((g : Grammar) → InBounds g → (o : Out) × Rows g o) → (o : Out) × OfWords words broken Rows o
@@ -55,21 +52,3 @@ accepted-met {Out} limit words refuse Rows rows = of-words (refused? limit words
         (o : Out) × OfAccepted limit words refuse Rows o
     of-words (inl (x, r)) = (refuse x, refused r)
     of-words (inr (g, e, a)) = let (o, z) = rows g (in-bounds words e) a in (o, accepted e a z)
-
--- For promises that list rows 5 to 7 themselves.
-module _ {Out : Type 0} (answer : Refusal → Out) (g : Grammar) (ok : InBounds g) (Rest : Out → Type 0) where
-  pub five-met : (Accepted terms.limit g → (o : Out) × Rest o) → (o : Out) × FromFive answer g Rest o
-  five-met rest = five (trees? g)
-    where
-      seven : AllTrees g → AllReached g → AllFit terms.limit g ⊎ ((r : ℕ) × Lowest (Oversize terms.limit g) r) →
-          (o : Out) × FromSeven answer g Rest o
-      seven t u (inl f) = let (o, z) = rest (record { trees = t; reached = u; fit = f }) in (o, go f z)
-      seven t u (inr (r, low)) = (answer (oversize r), stop low)
-
-      six : AllTrees g → AllReached g ⊎ ((A : ℕ) × Lowest (Unreached g) A) → (o : Out) × FromSix answer g Rest o
-      six t (inl u) = let (o, z) = seven t u (all-fit? terms.limit g ok t u) in (o, go u z)
-      six t (inr (A, low)) = (answer (unreached A), stop low)
-
-      five : AllTrees g ⊎ ((A : ℕ) × Lowest (NoTree g) A) → (o : Out) × FromFive answer g Rest o
-      five (inl t) = let (o, z) = six t (all-reached? g t) in (o, go t z)
-      five (inr (A, low)) = (answer (no-tree A), stop low)

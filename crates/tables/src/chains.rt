@@ -27,7 +27,7 @@ fn later(found: usize, s: usize, n: usize) -> usize {
     if s < n { s } else { found }
 }
 
-// The last nonterminal of few symbols; 65535 where there is none.
+// The last nonterminal of few symbols; NO_FIGURE where there is none.
 pub fn link(symbols: &[u16], n: usize) -> usize {
     let mut found = NO_FIGURE as usize;
     if FEW < symbols.len() {
