@@ -1,5 +1,5 @@
--- A sample, by the definitions alone. Files are checked in the order of their names, so that a wrong definition meets a fact before it
--- meets a proof.
+-- A sample, by the definitions alone. Files are checked in the order of their names, so that a wrong definition meets a fact
+-- before it meets a proof.
 pub mod ASampleOfTables
 -- What a table is.
 pub mod EntriesWritten

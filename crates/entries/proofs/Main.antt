@@ -1,5 +1,5 @@
--- The final statements of this crate, each by one citation: what a table is. A reader who believes specs/Table and reads this page is
--- done. Assumes nothing.
+-- The final statements of this crate, each by one citation: what a table is. A reader who believes specs/Table and reads this
+-- page is done. Assumes nothing.
 use Prim.Native.Nat.{ℕ, _+_, _≤_, _<_}
 use mathlib.Core.Path.{_≡_}
 use mathlib.Core.Bool.{So}

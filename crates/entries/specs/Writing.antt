@@ -1,6 +1,5 @@
--- For the functions that write a table, and those above that work one out: the words that figures make, and what a buffer holds when some
--- of them are written. Nobody has to believe this file; the promises do not cite it.
--- Assumes nothing.
+-- For the functions that write a table, and those above that work one out: the words that figures make, and what a buffer holds
+-- when some of them are written. Nobody has to believe this file; the promises do not cite it. Assumes nothing.
 use Prim.Native.Nat.{ℕ, zero, suc, _+_, _-_, _*_, _/_, _%_}
 use mathlib.Core.List.{List, _++_}
 use lib.Dec.{ltb}

@@ -1,6 +1,6 @@
-// The entries of a table, by name: this file alone knows which word of a table each is. What they mean is specs/Table. A nonterminal and
-// a rule are numbers of 16 bits, as words have them, so that every index can be counted; past the end of the words an entry is 0, and
-// nothing is written.
+// The entries of a table, by name: this file alone knows which word of a table each is. What they mean is specs/Table. A
+// nonterminal and a rule are numbers of 16 bits, as words have them, so that every index can be counted; past the end of the
+// words an entry is 0, and nothing is written.
 ghost use mathlib.Core.Path.{_≡_};
 ghost use Prim.Native.Nat.{_<_};
 ghost use Rattle.entries.specs.Table.{lengthFor, leastIn, chosenIn, contextIn, ruleIn, placeIn, totalIn};

@@ -1,5 +1,5 @@
--- For the private functions of the layers above: what they know of words that were read. Nobody has to believe this file; the promises
--- do not cite it. Assumes nothing.
+-- For the private functions of the layers above: what they know of words that were read. Nobody has to believe this file; the
+-- promises do not cite it. Assumes nothing.
 use mathlib.Core.Path.{_≡_}
 use mathlib.Core.List.{List}
 use Prim.Native.Nat.{ℕ, _<_}

@@ -1,5 +1,5 @@
--- No line is cut: the symbols and rule numbers of a tree are 16-bit words, in a night a sentence and its derivation are at most 4,096
--- numbers, and so room for 24,594 octets is room for each line. Assumes nothing.
+-- No line is cut: the symbols and rule numbers of a tree are 16-bit words, in a night a sentence and its derivation are at most
+-- 4,096 numbers, and so room for 24,594 octets is room for each line. Assumes nothing.
 use Prim.Native.Nat.{ℕ, zero, suc, _+_, _≤_, _<_}
 use native.Mathlib.Omega.{arith}
 use mathlib.Core.Path.{_≡_, refl}

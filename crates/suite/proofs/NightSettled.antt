@@ -1,6 +1,6 @@
--- A night is settled: over words that are one grammar, whatever buffers each call was lent and whatever stands behind the table, two
--- nights of as many handouts have handed out the same, and two that are over have handed out as many. The target of a call is the
--- lowest rule that none before has used, and its tree has one listing. Assumes nothing.
+-- A night is settled: over words that are one grammar, whatever buffers each call was lent and whatever stands behind the table,
+-- two nights of as many handouts have handed out the same, and two that are over have handed out as many. The target of a call is
+-- the lowest rule that none before has used, and its tree has one listing. Assumes nothing.
 use Prim.Native.Nat.{ℕ, suc, _≤_, _<_}
 use native.Mathlib.Omega.{arith}
 use native.Mathlib.Decide.{decLt}

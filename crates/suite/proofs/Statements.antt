@@ -1,6 +1,6 @@
--- The final statements of this crate, each by one citation. A reader who believes specs/Text and specs/Pieces and reads this page is
--- done. No contract can say what is read or written: these say what the pieces are, of every list of octets; that `print_pieces` calls
--- for them in order and writes only pieces so made is what its calls require. Assumes nothing.
+-- The final statements of this crate, each by one citation. A reader who believes specs/Text and specs/Pieces and reads this page
+-- is done. No contract can say what is read or written: these say what the pieces are, of every list of octets; that
+-- `print_pieces` calls for them in order and writes only pieces so made is what its calls require. Assumes nothing.
 use Prim.Native.Nat.{ℕ, _≤_}
 use mathlib.Core.Path.{_≡_}
 use mathlib.Core.Bool.{true, false}

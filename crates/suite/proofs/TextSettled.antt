@@ -1,5 +1,5 @@
--- The text of a file is settled: there is one, and no other. Into a buffer with room for all `unpack` refuses by the file alone, rows
--- 4 to 7 refuse words in one way, and a night is settled. Assumes nothing.
+-- The text of a file is settled: there is one, and no other. Into a buffer with room for all `unpack` refuses by the file alone,
+-- rows 4 to 7 refuse words in one way, and a night is settled. Assumes nothing.
 use Prim.Native.Nat.{ℕ, _%_, _≤_, _<_}
 use native.Mathlib.Omega.{arith}
 use native.Mathlib.Decide.{decLt, ℕ-discrete}

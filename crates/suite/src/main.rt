@@ -1,8 +1,9 @@
 // The suite program: a packed grammar file from standard input, and on standard output a line for each sentence that
-// `handout::next` hands out from clear marks, until every rule has been used; a refused file gives one line. What a line is stands
-// in crates/lines. The text comes in pieces, each of as many lines as surely fit: `first_piece` and then `next_piece` fill a buffer
-// and say how much of it is to be written, and that the pieces joined are the document's text of the input is proved (`whole-text`).
-// Only `print_pieces` writes. A read that fails is the end of the input; after a write that fails nothing more is written.
+// `handout::next` hands out from clear marks, until every rule has been used; a refused file gives one line. What a line is
+// stands in crates/lines. The text comes in pieces, each of as many lines as surely fit: `first_piece` and then `next_piece` fill
+// a buffer and say how much of it is to be written, and that the pieces joined are the document's text of the input is proved
+// (`whole-text`). Only `print_pieces` writes. A read that fails is the end of the input; after a write that fails nothing more is
+// written.
 ghost use Prim.Native.Nat.{_≤_};
 ghost use mathlib.Core.Path.{_≡_};
 ghost use mathlib.Core.Bool.{false};

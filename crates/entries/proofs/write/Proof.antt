@@ -47,9 +47,14 @@ same-length c = search needs
 
 returns : tie.Need-returns
 returns c =
-    let a = c .before .before .before .before .before .before .before .before .before .before .before .before .before .before .before .before .before .before .before .before .before .before .args in
-    five (a .entries) (a .table .now) (c .before .before .before .before .before .before .before .before .before .before .before .before .before .before .before .before .before .before .before .before .wide .ensures) (c .before .before .before .before .before .before .before .before .before .before .before .before .before .before .before .before .before .before .put .ensures) (c .before .before .before .before .before .before .before .before .before .before .before .before .before .before .put2 .ensures) (c .before .before .before .before .before .before .before .before .before .before .put3 .ensures)
-    (c .before .before .before .before .before .before .put4 .ensures) (c .before .before .put5 .ensures)
+    let fifth = c .before .before in
+    let fourth = fifth .before .before .before .before in
+    let third = fourth .before .before .before .before in
+    let second = third .before .before .before .before in
+    let first = second .before .before .before .before in
+    let a = first .before .before .before .before .args in
+    five (a .entries) (a .table .now) (first .before .before .wide .ensures) (first .put .ensures) (second .put2 .ensures)
+    (third .put3 .ensures) (fourth .put4 .ensures) (fifth .put5 .ensures)
   where
     five : (e : Entries) (t : List ℕ) {n m : ℕ} {u v w x y : List ℕ} → n ≡ m → u ≡ set t (5 * n) (e .least) → v ≡ set u (5 * n + 1) (e .chosen) →
         w ≡ set v (5 * n + 2) (e .context) → x ≡ set w (5 * n + 3) (e .rule) → y ≡ set x (5 * n + 4) (e .place) →
@@ -58,4 +63,18 @@ returns c =
 
 pub write-spec : {M : Type 1} → statement M
 write-spec =
-    tie.close (tie.spec wide-requires mul-at put-requires add-put put-requires-2 add-put-2 put-requires-3 add-put-3 put-requires-4 add-put-4 put-requires-5 same-length returns)
+    tie.close
+    (tie.spec
+    wide-requires
+    mul-at
+    put-requires
+    add-put
+    put-requires-2
+    add-put-2
+    put-requires-3
+    add-put-3
+    put-requires-4
+    add-put-4
+    put-requires-5
+    same-length
+    returns)

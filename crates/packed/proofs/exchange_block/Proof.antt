@@ -1,5 +1,5 @@
--- `packed::exchange_block` meets its contract. The invariant of its loop: the first j of the block are exchanged. The measure is the
--- block's length less j. Assumes nothing.
+-- `packed::exchange_block` meets its contract. The invariant of its loop: the first j of the block are exchanged. The measure is
+-- the block's length less j. Assumes nothing.
 use mathlib.Core.Path.{_≡_}
 use Prim.Native.Nat.{ℕ, _+_, _-_, _/_, _%_, _≤_, _<_}
 use native.Mathlib.Omega.{arith}

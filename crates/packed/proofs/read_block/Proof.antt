@@ -1,5 +1,5 @@
--- `packed::read_block` meets its contract. The invariant of its loop: the first j of the block are spelled. The measure is the block's
--- length less j. Assumes nothing.
+-- `packed::read_block` meets its contract. The invariant of its loop: the first j of the block are spelled. The measure is the
+-- block's length less j. Assumes nothing.
 use mathlib.Core.Path.{_≡_, _∙_}
 use Prim.Native.Nat.{ℕ, _+_, _*_, _-_, _/_, _%_, _≤_, _<_}
 use native.Mathlib.Omega.{arith}

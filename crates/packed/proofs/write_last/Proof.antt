@@ -1,5 +1,5 @@
--- `packed::write_last` meets its contract. The invariant of its loop: file holds the octets before the block and those of j words of
--- it, and its own from there on. The measure is the block's length less j. Assumes nothing.
+-- `packed::write_last` meets its contract. The invariant of its loop: file holds the octets before the block and those of j words
+-- of it, and its own from there on. The measure is the block's length less j. Assumes nothing.
 use mathlib.Core.Path.{_≡_, sym, ap, _∙_}
 use mathlib.Core.List.{List, _++_}
 use Prim.Native.Nat.{ℕ, _+_, _*_, _-_, _≤_, _<_}

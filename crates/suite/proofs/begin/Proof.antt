@@ -1,4 +1,5 @@
--- `suite::begin` meets its contract, by what `unpack` answers: the words that it has written lie within the buffer. Assumes nothing.
+-- `suite::begin` meets its contract, by what `unpack` answers: the words that it has written lie within the buffer. Assumes
+-- nothing.
 use mathlib.Core.Path.{sym}
 use lib.Seq.{length-take-le}
 use Rattle.packed.proofs.Main.{after-unpack}

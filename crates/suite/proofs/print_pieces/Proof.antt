@@ -1,5 +1,5 @@
--- `suite::print_pieces` meets what the pieces require, writes each that was made, and ends. The loop's invariant: the pieces of successive
--- calls for the file lead to here (`Pieces`). Each turn leaves one less (`turns`). Assumes nothing.
+-- `suite::print_pieces` meets what the pieces require, writes each that was made, and ends. The loop's invariant: the pieces of
+-- successive calls for the file lead to here (`Pieces`). Each turn leaves one less (`turns`). Assumes nothing.
 use Prim.Native.Nat.{ℕ, _≤_}
 use mathlib.Core.Path.{_≡_, sym}
 use mathlib.Core.List.{List, []}

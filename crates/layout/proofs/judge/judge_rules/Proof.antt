@@ -1,5 +1,5 @@
--- `layout::judge::judge_rules` meets its contract. The loop's invariant: the number of all rules is that of those passed, at
--- most 256, and of those to come; and what places is to hold in the end is what it holds with those to come noted. The measure is how
+-- `layout::judge::judge_rules` meets its contract. The loop's invariant: the number of all rules is that of those passed, at most
+-- 256, and of those to come; and what places is to hold in the end is what it holds with those to come noted. The measure is how
 -- many may still begin. Assumes nothing.
 use mathlib.Core.Path.{_≡_, refl, ap, sym, _∙_}
 use Prim.Native.Nat.{ℕ, _+_, _*_, _-_, _≤_}
