@@ -25,7 +25,6 @@ use Rattle.tables.specs.ContextSteps.{PlaceStep, skipped, tried, PlacesS
 use Rattle.tables.specs.ContextSteps.{ContextStep, as-seen, unseen, Known, Tried, Stands, SeenTurn}
 use Rattle.entries.proofs.SizeApart.{size-apart}
 use Rattle.tables.proofs.ContextsFall.{place-length, places-no-higher, context-fallen, context-no-higher}
-use Rattle.tables.proofs.FiguresHaveRoom.{room-for-all}
 use Rattle.figures.proofs.FiguresKept.{lowered-no-higher, lowered-known}
 use Rattle.layout.specs.View.{View}
 use Rattle.layout.proofs.RulesInView.{viewed-rule, viewed-left, viewed-right, viewed-room}
@@ -208,7 +207,7 @@ module _ {ws places sizes vs : List ℕ} {n rules : ℕ} {g : Grammar} (known : 
         λ C u q. step-still q (known .sized k C u q) room stands (step-of q) e .1,
       )
 
-  -- the left side of a rule has a place among the contexts, and each nonterminal one among the leasts
+  -- the left side of a rule has a place among the contexts
   pub left-room : {B k at m : ℕ} → k < rules → 128 ≤ m → at ≡ getD places k 0 → B ≡ getD ws at 0 → B < m
   left-room {B} {k} {m = m} h long is e = go (viewed-rule (known .view) k h)
     where
@@ -217,11 +216,6 @@ module _ {ws places sizes vs : List ℕ} {n rules : ℕ} {g : Grammar} (known : 
 
       go : (C : ℕ) × (w : List ℕ) × RuleAt g k C w → B < m
       go (C, w, r) = omega (arith, left, viewed-left (known .view) r, r .left, viewed-room (known .view) long)
-
-  pub known-room : {m : ℕ} → 128 ≤ m → (n ≤ length vs) × (n ≤ m)
-  known-room long =
-      let is = known .view .nonterminals in
-      (rw is (room-for-all vs (g .N) (known .done .all)), rw is (viewed-room (known .view) long))
 
 -- A TURN of rule k so far, from the contexts us to us′, and what is seen: rule r is next, and it is k itself where nothing fell yet
 pub record ContextsFollowed (ws places : List ℕ) (n rules : ℕ) (sizes vs : List ℕ) (k : ℕ) (us seen us′ seen′ : List ℕ) (f r : ℕ) :

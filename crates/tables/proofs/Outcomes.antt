@@ -107,7 +107,7 @@ module _ {ws places : List ℕ} {n start rules : ℕ} {vs sizes : List ℕ} (p :
   }
 
 -- the leasts and the contexts have a place for each nonterminal
-pub placed-room : {ws places vs sizes us : List ℕ} {n rules : ℕ} → Placed ws places n rules vs sizes us →
+placed-room : {ws places vs sizes us : List ℕ} {n rules : ℕ} → Placed ws places n rules vs sizes us →
     (n ≤ length vs) × (n ≤ length us)
 placed-room {vs = vs} {us = us} p =
     let e = p .view .nonterminals in

@@ -26,15 +26,15 @@ fn refuse(number: u16, place: usize) -> TableAnswer
     TableAnswer::Refused { number, place }
 }
 
-// 5, and what follows.
-pub fn of_grammar(
+// 5, and what follows. The three that one value holds are lent at one lifetime.
+pub fn of_grammar<'a>(
     words: &[u16],
-    places: &[u16],
+    places: &'a [u16],
     n: usize,
     start: usize,
     rules: usize,
-    leasts: &[u16],
-    sizes: &[u32; 256],
+    leasts: &'a [u16],
+    sizes: &'a [u32; 256],
     table: &mut [u16],
 ) -> TableAnswer
     requires { ⌜ Measured (now words) (now places) n start rules (now leasts) (now sizes) ⌝ }

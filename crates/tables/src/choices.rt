@@ -7,6 +7,7 @@ ghost use Rattle.figures.specs.Figures.{figure};
 ghost use Rattle.tables.specs.Choices.{NoChoices, ChosenOf, LeadsOf};
 ghost use Rattle.layout.specs.View.{View};
 ghost use Rattle.tables.specs.Choices.{Noted, NotedWhere, LeadsNoted};
+use cells::wide;
 use entries::NO_CHOICE;
 use figures::figure_at;
 use layout::rules;
@@ -65,15 +66,12 @@ fn choose_lead(
     contexts: &[u16],
     leads: &mut [u16],
 )
-    requires { ⌜ (n ≤ length (now leasts)) × ((n ≤ length (now contexts)) × (n ≤ length (now leads))) ⌝ }
     ensures { λ _. ⌜ NotedWhere ((s < n) × (figure (now (leasts .entry)) s + figure (now (contexts .entry)) s ≡ total))
         (now (leads .entry)) s place (now (leads .exit)) ⌝ }
 {
     if s < n {
-        if (leasts[s] as usize) + (contexts[s] as usize) == total as usize {
-            if leads[s] == NO_CHOICE {
-                leads[s] = place;
-            }
+        if figure_at(leasts, s) + figure_at(contexts, s) == wide(total) {
+            note(leads, s, place);
         }
     }
 }
@@ -89,7 +87,6 @@ fn choose_leads_of(
     leads: &mut [u16],
 )
     requires { ⌜ (length (now symbols) ≤ 32) × (r < 256) ⌝ }
-    requires { ⌜ (n ≤ length (now leasts)) × ((n ≤ length (now contexts)) × (n ≤ length (now leads))) ⌝ }
     ensures { λ _. ⌜ LeadsNoted (now (symbols .entry)) n r total
         (now (leasts .entry)) (now (contexts .entry)) (now (leads .entry)) (now (leads .exit)) ⌝ }
 {
@@ -120,7 +117,6 @@ pub fn choose_leads(
     leads: &mut [u16],
 )
     requires { ⌜ rules ≤ 256 ⌝ }
-    requires { ⌜ (n ≤ length (now leasts)) × ((n ≤ length (now contexts)) × (n ≤ length (now leads))) ⌝ }
     requires { ⌜ ((g : Grammar) × View (now words) (now places) n rules g) ⌝ }
     ensures { λ _. ⌜ ((g : Grammar) → View (now (words .entry)) (now (places .entry)) n rules g →
         NoChoices (now (leads .entry)) →

@@ -16,6 +16,7 @@ use figures::NO_FIGURE;
 use figures::cap;
 use figures::figure_at;
 use figures::in_turn;
+use figures::lower;
 use layout::rules;
 use layout::words::word;
 
@@ -35,22 +36,17 @@ fn widened(size: u32) -> usize
 // Lowers the context of the symbol s of a rule, where whole is the rule's size and the context of its left side: the symbol's own
 // least is taken off again. How many figures fell.
 fn lower_context(s: usize, n: usize, whole: usize, leasts: &[u16], contexts: &mut [u16]) -> usize
-    requires { ⌜ (n ≤ length (now leasts)) × (n ≤ length (now contexts)) ⌝ }
     ensures { λ r. ⌜ PlaceStep n whole (now (leasts .entry)) s (now (contexts .entry)) (now (contexts .exit)) r ⌝ }
 {
     if n <= s {
         return 0;
     }
-    let least = leasts[s] as usize;
+    let least = figure_at(leasts, s);
     if whole < least {
         return 0;
     }
     let to = cap(whole - least);
-    if to < contexts[s] {
-        contexts[s] = to;
-        return 1;
-    }
-    0
+    lower(contexts, s, to)
 }
 
 // The same for each symbol of a rule.
@@ -62,7 +58,6 @@ fn lower_contexts(
     contexts: &mut [u16],
 ) -> usize
     requires { ⌜ length (now symbols) ≤ 65535 ⌝ }
-    requires { ⌜ (n ≤ length (now leasts)) × (n ≤ length (now contexts)) ⌝ }
     ensures { λ r. ⌜ PlacesStep n whole (now (leasts .entry)) (now (symbols .entry)) (now (contexts .entry))
         (now (contexts .exit)) r ⌝ }
 {
@@ -87,7 +82,6 @@ fn context_of_rule(
     contexts: &mut [u16],
 ) -> usize
     requires { ⌜ (length (now symbols) ≤ 65535) × ((left < length (now contexts)) × (r < length (now seen))) ⌝ }
-    requires { ⌜ (n ≤ length (now leasts)) × (n ≤ length (now contexts)) ⌝ }
     ensures { λ fell. ⌜ ContextStep n size (now (leasts .entry)) r left (now (symbols .entry)) (now (contexts .entry))
         (now (seen .entry)) (now (contexts .exit)) (now (seen .exit)) fell ⌝ }
 {

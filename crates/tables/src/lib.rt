@@ -22,9 +22,6 @@ pub fn tables(words: &[u16], table: &mut [u16]) -> TableAnswer
 {
     let found = leasts::leasts(words);
     let answer = found.answer;
-    let places = found.places;
-    let leasts = found.leasts;
-    let sizes = found.sizes;
     match answer {
         LayoutAnswer::Fault { place } => TableAnswer::Refused {
             number: answers::BROKEN_LAYOUT,
@@ -37,12 +34,12 @@ pub fn tables(words: &[u16], table: &mut [u16]) -> TableAnswer
             rules,
         } => build::of_grammar(
             words,
-            &places,
+            &found.places,
             nonterminals,
             start,
             rules,
-            &leasts,
-            &sizes,
+            &found.leasts,
+            &found.sizes,
             table,
         ),
     }

@@ -17,20 +17,14 @@ enum-known-answer c = search needs
 enum-known-answer-2 : tie.Need-enum-known-answer-2
 enum-known-answer-2 c = search needs
 
-slice-aggregate-of-grammar : tie.Need-slice-aggregate-of-grammar
-slice-aggregate-of-grammar c = search needs
-
-slice-aggregate-of-grammar-2 : tie.Need-slice-aggregate-of-grammar-2
-slice-aggregate-of-grammar-2 c = search needs
-
 of-grammar-requires : tie.Need-of-grammar-requires
 of-grammar-requires c κs =
-    let answer = c .before .before .before .before .before in
-    measured (answer .before .before .before .before .before .leasts .ensures) (answer .answer2 .given .1)
+    let answer = c .before .before .before .before .before .before .before .before in
+    measured (answer .before .before .leasts .ensures) (answer .answer2 .given .1)
 
 returns : tie.Need-returns
 returns c =
-    let found = c .before .before .before .before .before .before .leasts in
+    let found = c .before .before .before .leasts in
     row-4-7 (row-4 (broken-of _ (found .ensures .answer) (c .before .answer .given .1)))
 
 same-length : tie.Need-same-length
@@ -46,8 +40,6 @@ tables-spec =
     leasts-requires
     enum-known-answer
     enum-known-answer-2
-    slice-aggregate-of-grammar
-    slice-aggregate-of-grammar-2
     of-grammar-requires
     returns
     same-length

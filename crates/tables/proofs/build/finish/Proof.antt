@@ -3,7 +3,7 @@
 use mathlib.Core.Path.{refl}
 use native.Mathlib.Omega.{arith}
 use Rattle.layout.proofs.WordsRead.{view-few}
-use Rattle.tables.proofs.Outcomes.{placed-room, all-placed, finished}
+use Rattle.tables.proofs.Outcomes.{all-placed, finished}
 use borrow.Author.Needs.{needs}
 use Rattle.tables.proofs.build.finish.Statement.{statement}
 use Rattle.tables.proofs.build.finish.Tie as tie
@@ -21,7 +21,7 @@ choose-leads-requires : tie.Need-choose-leads-requires
 choose-leads-requires c κs =
     let p = c .before .before .before .before .before .before .before .before .before .pre .0 in
     let few = view-few (p .view) in
-    (omega (arith, few), ((placed-room p .0, (placed-room p .1, omega (arith, few))), (p .grammar, p .view)))
+    (omega (arith, few), (p .grammar, p .view))
 
 slice-aggregate-fill : tie.Need-slice-aggregate-fill
 slice-aggregate-fill c = search needs

@@ -46,12 +46,11 @@ choose-leads-of-requires c κs =
     let at = c .before .before .before .index in
     let loop = c .before .before .before .before .before .loop in
     let start = c .before .before .before .before .before .before .before .before .before .before in
-    let (g, view) = start .before .pre .1 .1 in
+    let (g, view) = start .before .pre .1 in
     let (A, w, rule) = viewed-rule view (loop .r) (omega arith) in
     let short = rule-short (in-bounds (start .before .args .words .now) (view .is)) rule in
     let is = right .ensures .0 ∙ ap (rightAt (start .before .args .words .now)) (at .ensures) ∙ viewed-right view rule in
-    let room = start .before .pre .1 .0 in
-    ((rw is short, omega arith), (room .0, (room .1 .0, omega (arith, loop .inv .1))))
+    (rw is short, omega arith)
 
 add-r : tie.Need-add-r Inv-loop μ-loop
 add-r c = search needs

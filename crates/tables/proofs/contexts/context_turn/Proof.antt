@@ -7,7 +7,7 @@ use lib.ListN.{length}
 use Rattle.figures.specs.Weights.{weight}
 use Rattle.tables.proofs.ContextsFall.{context-fallen}
 use Rattle.tables.proofs.ContextRounds.{ContextsFollowed, followed-none, followed-more, followed-end}
-use Rattle.tables.proofs.ContextRounds.{followed-turn, followed-out, left-room, known-room}
+use Rattle.tables.proofs.ContextRounds.{followed-turn, followed-out, left-room}
 use borrow.Author.Needs.{needs}
 use Rattle.tables.proofs.contexts.context_turn.Statement.{statement}
 use Rattle.tables.proofs.contexts.context_turn.Tie as tie
@@ -48,10 +48,8 @@ context-of-rule-requires c κs =
     let below = index .before .if1 .taken in
     let small : at .loop .r < 256 = omega (arith, p .0 .0, below) in
     let long : 128 ≤ length (at .loop .contexts) = omega (arith, p .0 .1 .1 .1, at .loop .inv .same-length) in
-    let room : at .loop .r < length (at .loop .seen) = omega (arith, small, p .0 .1 .1 .0, at .loop .inv .same-seen) in (
-      (right .right .ensures .1, (left-room known below long (index .index .ensures) (word .word .ensures), room)),
-      known-room known long,
-    )
+    let room : at .loop .r < length (at .loop .seen) = omega (arith, small, p .0 .1 .1 .0, at .loop .inv .same-seen) in
+    (right .right .ensures .1, (left-room known below long (index .index .ensures) (word .word .ensures), room))
 
 same-length : tie.Need-same-length Inv-loop μ-loop
 same-length c = search needs
