@@ -28,7 +28,8 @@ returns c =
     let sum = c .before .before .before .before in
     let context = sum .before .before .figure-at2 .ensures .0 in
     let least = sum .before .before .before .figure-at .ensures .0 in
-    does (omega arith, omega (arith, context, least, sum .before .wide .ensures, sum .if2 .taken)) (c .before .before .note .ensures)
+    let total = sum .before .wide .ensures in
+    does (omega arith, omega (arith, context, least, total, sum .if2 .taken)) (c .before .before .note .ensures)
 
 returns-2 : tie.Need-returns-2
 returns-2 c =
