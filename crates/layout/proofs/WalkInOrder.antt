@@ -37,7 +37,7 @@ next-hands-out words {k} {v} (handed {rs = rs} {s = s} e span h) =
     handed e span later
 
 -- what a step from the walk before rule k found is that rule
-pub record Found (g : Grammar) (k : ℕ) (s : RuleSpan) : Type 0 where
+pub record RuleFound (g : Grammar) (k : ℕ) (s : RuleSpan) : Type 0 where
   pub A : ℕ
   pub w : List ℕ
   pub rule : RuleAt g k A w
@@ -93,10 +93,10 @@ module _ (ws : List ℕ) (g : Grammar) (e : layout ws ≡ reads g) where
       go (no h) = step-past-256 ws (walkBefore g (R g)) (omega arith)
 
   -- for one who goes by the step: what it found is rule k, and where it found none k is R
-  pub walk-found : (k : ℕ) {s : RuleSpan} → k ≤ R g → stepAt ws (walkBefore g k) ≡ step.Rule s → Found g k s
+  pub walk-found : (k : ℕ) {s : RuleSpan} → k ≤ R g → stepAt ws (walkBefore g k) ≡ step.Rule s → RuleFound g k s
   walk-found k {s} l q = go (decLt k (R g))
     where
-      go : Dec (k < R g) → Found g k s
+      go : Dec (k < R g) → RuleFound g k s
       go (yes h) =
           let r = rule-at (in-bounds ws e) k h in
           let f = sym q ∙ walk-hands-rule (r .2) in

@@ -32,15 +32,15 @@ module _ (words list before : List ℕ) where
   data Short (g : Grammar) : ℕ → Type 0 where
     short : {t : List ℕ} → Derives g list t → length before < length t → Short g (length t)
 
-  data Room (g : Grammar) : Type 0 where
-    room : {t : List ℕ} → Derives g list t → length t ≤ length before → Room g
+  data SentenceRoom (g : Grammar) : Type 0 where
+    room : {t : List ℕ} → Derives g list t → length t ≤ length before → SentenceRoom g
 
-  data Written (g : Grammar) : Out → Type 0 where
-    written : {t : List ℕ} → Derives g list t → Written g (answer (done (length t)), over t before)
+  data SentenceWritten (g : Grammar) : Out → Type 0 where
+    written : {t : List ℕ} → Derives g list t → SentenceWritten g (answer (done (length t)), over t before)
 
   -- the rows of a grammar g as gates: 12, 11, 3, done
   abbrev FromThree : Grammar → Out → Type 0
-  FromThree g = Gate (Short g) (Room g) (λ n. keeping (too-short n)) (Written g)
+  FromThree g = Gate (Short g) (SentenceRoom g) (λ n. keeping (too-short n)) (SentenceWritten g)
 
   abbrev FromEleven : Grammar → Out → Type 0
   FromEleven g = Gate (StopsAt g list) ((t : List ℕ) × Derives g list t) (λ p. keeping (no-derivation p)) (FromThree g)
@@ -51,10 +51,10 @@ module _ (words list before : List ℕ) where
   short-unique : (g : Grammar) (n m : ℕ) → Short g n → Short g m → n ≡ m
   short-unique g _ _ (short a h) (short b k) = ap length (derives-unique g a b)
 
-  short-apart : (g : Grammar) (n : ℕ) → Short g n → Room g → ⊥
+  short-apart : (g : Grammar) (n : ℕ) → Short g n → SentenceRoom g → ⊥
   short-apart g _ (short a h) (room b k) = omega (arith, ap length (derives-unique g a b))
 
-  written-settles : (g : Grammar) → Settles (Written g)
+  written-settles : (g : Grammar) → Settles (SentenceWritten g)
   written-settles g _ _ (written a) (written b) = ap (λ t. (answer (done (length t)), over t before)) (derives-unique g a b)
 
   rows-settle : (g : Grammar) → Settles (Rows g)

@@ -31,8 +31,8 @@ pub true-not-false : {b : Bool} → b ≡ true → b ≡ false → ⊥
 true-not-false e f = let z : _≡_ {A = ℕ} 0 1 = cc in omega arith
 
 -- marks for all rules, room for every sentence and every derivation
-abbrev pub Room : List ℕ → List ℕ → List ℕ → Type 0
-Room marks tokens rules = (256 ≤ length marks) × (limit ≤ length tokens) × (limit ≤ length rules)
+abbrev pub LineRoom : List ℕ → List ℕ → List ℕ → Type 0
+LineRoom marks tokens rules = (256 ≤ length marks) × (limit ≤ length tokens) × (limit ≤ length rules)
 
 -- while it is not over there are no more sentences than rules
 pub count-few : {file words table marks out : List ℕ} {count : ℕ} {over : Bool} →
@@ -66,7 +66,7 @@ line-more {g = g} hs accepts night a (inr (r, n, m, is)) p last count e =
 
 module _ {words table text text′ : List ℕ} {before after : Lent} {so then : Piece} (on : so .over ≡ false)
     (room : so .length + mostLine ≤ length text)
-    (large : Room (before .marks) (before .tokens) (before .rules))
+    (large : LineRoom (before .marks) (before .tokens) (before .rules))
     (a : Answered words table before after text text′ so then) where
   behind : (file out : List ℕ) →
       SoFar file words table (before .marks) (so .count) (so .over) (out ++ take (so .length) text) →
@@ -112,7 +112,7 @@ module _ {words table marks text : List ℕ} {so : Piece} where
 
   pub filling-goes-on : {text′ text″ : List ℕ} {before after : Lent} {then more : Piece} →
       Filling words table marks (before .marks) text text′ so then → then .over ≡ false →
-      then .length + mostLine ≤ length text′ → Room (before .marks) (before .tokens) (before .rules) →
+      then .length + mostLine ≤ length text′ → LineRoom (before .marks) (before .tokens) (before .rules) →
       Answered words table before after text′ text″ then more →
       Filling words table marks (after .marks) text text″ so more
   filling-goes-on {then = then} {more = more} f on room large a =

@@ -9,7 +9,7 @@ use lib.ListN.{length, take, getD, replicate}
 use Rattle.lines.specs.Lines.{mostLine}
 use Rattle.suite.specs.declared.Piece.{Piece}
 use Rattle.suite.specs.Text.{Text}
-use Rattle.suite.specs.Pieces.{Clear, SoFar, going, whole, FirstPiece, NextPiece, Pieces, first, next, Reached, Made}
+use Rattle.suite.specs.Pieces.{Clear, SoFar, going, whole, FirstPiece, NextPiece, Pieces, first, next, PieceReached, Made}
 use Rattle.suite.specs.Filled.{Waits, Filled}
 use Rattle.suite.specs.Begun.{TextBegun}
 use Rattle.suite.proofs.MoreLines.{true-not-false, count-few}
@@ -54,7 +54,7 @@ first-made {file} {marks = marks} begun zeros f = record {
 }
 
 module _ {words table marks : List ℕ} {so : Piece} where
-  pub next-waits : Reached words table marks so → so .over ≡ false → (text : List ℕ) →
+  pub next-waits : PieceReached words table marks so → so .over ≡ false → (text : List ℕ) →
       Waits (take (so .words) words) table marks text (record { words = so .words; count = so .count; length = 0; over = false })
   next-waits reached on text = record {
     within = omega arith;

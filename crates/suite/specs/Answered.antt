@@ -30,8 +30,8 @@ isLast Finished = true
 isLast (Refused k p) = true
 
 -- the last line written behind what waits in the text
-abbrev pub Ended : List ℕ → List ℕ → Piece → Piece → Type 0
-Ended text text′ so then =
+abbrev pub LineEnded : List ℕ → List ℕ → Piece → Piece → Type 0
+LineEnded text text′ so then =
     LineWritten (endLine (so .count)) text (so .length) text′ (then .length) × (then .words ≡ so .words) ×
     (then .count ≡ so .count) × (then .over ≡ true)
 

@@ -52,7 +52,7 @@ pub data Pieces (file words table : List ℕ) : ℕ → List ℕ → List ℕ �
       Pieces file words table (n + 1) (out ++ take (then .length) text) marks′ then
 
 -- calls lead to here
-pub record Reached (words table marks : List ℕ) (so : Piece) : Type 0 where
+pub record PieceReached (words table marks : List ℕ) (so : Piece) : Type 0 where
   pub file : List ℕ
   pub calls : ℕ
   pub out : List ℕ

@@ -11,10 +11,10 @@ ghost use lib.ListN.{length};
 ghost use Rattle.entries.specs.Table.{mostTable};
 ghost use Rattle.handout.specs.Next.{Lent};
 ghost use Rattle.lines.specs.Lines.{mostLine};
-ghost use Rattle.suite.specs.Answered.{Ended, Answered};
+ghost use Rattle.suite.specs.Answered.{LineEnded, Answered};
 ghost use Rattle.suite.specs.Begun.{OneLine, FirstLine, OfWords, TextBegun};
 ghost use Rattle.suite.specs.Filled.{Waits, Filled};
-ghost use Rattle.suite.specs.Pieces.{Clear, Large, FirstPiece, Reached, NextPiece, Made};
+ghost use Rattle.suite.specs.Pieces.{Clear, Large, FirstPiece, PieceReached, NextPiece, Made};
 use entries::LIMIT;
 use entries::MOST_TABLE;
 use handout::NextAnswer;
@@ -96,7 +96,7 @@ fn first_piece(
 // The next piece, after those that lead to here.
 fn next_piece(words: &[u16], table: &[u16], marks: &mut [u8], text: &mut [u8], so: Piece) -> Piece
     requires { ⌜ Large (now marks) (now text) ⌝ }
-    requires { ⌜ Reached (now words) (now table) (now marks) so ⌝ }
+    requires { ⌜ PieceReached (now words) (now table) (now marks) so ⌝ }
     requires { ⌜ so .over ≡ false ⌝ }
     ensures { λ r. ⌜ NextPiece (now (words .entry)) (now (table .entry)) (now (marks .entry)) (now (marks .exit))
         (now (text .exit)) so r ⌝ }
@@ -185,7 +185,7 @@ fn answered(
 
 // The last line, behind what waits.
 fn ended(text: &mut [u8], so: Piece) -> Piece
-    ensures { λ r. ⌜ Ended (now (text .entry)) (now (text .exit)) so r ⌝ }
+    ensures { λ r. ⌜ LineEnded (now (text .entry)) (now (text .exit)) so r ⌝ }
 {
     Piece {
         words: so.words,

@@ -22,7 +22,7 @@ use Rattle.figures.specs.Figures.{noFigure, figure, Has, capped, Lowered, fell,
 use Rattle.figures.specs.Weights.{Fallen}
 use Rattle.tables.specs.ContextFigures.{LeastsDone, ContextsSound, ContextQuiet}
 use Rattle.tables.specs.ContextSteps.{PlaceStep, skipped, tried, PlacesStep, no-symbol, symbol}
-use Rattle.tables.specs.ContextSteps.{ContextStep, as-seen, unseen, Known, Tried, Stands, SeenTurn}
+use Rattle.tables.specs.ContextSteps.{ContextStep, as-seen, unseen, LeastsKnown, Tried, Stands, SeenTurn}
 use Rattle.entries.proofs.SizeApart.{size-apart}
 use Rattle.tables.proofs.ContextsFall.{place-length, places-no-higher, context-fallen, context-no-higher}
 use Rattle.figures.proofs.FiguresKept.{lowered-no-higher, lowered-known}
@@ -168,7 +168,7 @@ module _ {n size k B : ℕ} {vs w us us′ seen seen′ : List ℕ} {f : ℕ} (s
       })
 
 -- A TURN, as the functions read the rule
-module _ {ws places sizes vs : List ℕ} {n rules : ℕ} {g : Grammar} (known : Known ws places n rules sizes vs g) where
+module _ {ws places sizes vs : List ℕ} {n rules : ℕ} {g : Grammar} (known : LeastsKnown ws places n rules sizes vs g) where
   turn-alone : {k f : ℕ} {us us′ seen seen′ : List ℕ} → k < rules → 128 ≤ length us →
       ContextStep n (getD sizes k 0) vs k (getD ws (getD places k 0) 0) (rightAt ws (getD places k 0)) us seen us′ seen′ f →
       SeenTurn g vs k us seen us′ seen′ f
@@ -225,7 +225,7 @@ pub record ContextsFollowed (ws places : List ℕ) (n rules : ℕ) (sizes vs : L
   pub fallen : Fallen us us′ f
   pub once : f ≤ 1
   pub first : f ≡ 0 → (us′ ≡ us) × (seen′ ≡ seen) × (r ≡ k)
-  pub keeps : (g : Grammar) → Known ws places n rules sizes vs g → Stands g vs us seen → Stands g vs us′ seen′
+  pub keeps : (g : Grammar) → LeastsKnown ws places n rules sizes vs g → Stands g vs us seen → Stands g vs us′ seen′
 
 module _ {ws places : List ℕ} {n rules : ℕ} {sizes vs : List ℕ} where
   pub followed-none : {k : ℕ} (us seen : List ℕ) → ContextsFollowed ws places n rules sizes vs k us seen us seen 0 k
@@ -242,7 +242,7 @@ module _ {ws places : List ℕ} {n rules : ℕ} {sizes vs : List ℕ} where
       (so-far : ContextsFollowed ws places n rules sizes vs k us seen us′ seen′ f r) (h : r < rules) (long : 128 ≤ length us′)
       (found : at ≡ getD places r 0) (e : B ≡ getD ws at 0) (e′ : w ≡ rightAt ws at) (e″ : size ≡ getD sizes r 0)
       (step : ContextStep n size vs r B w us′ seen′ us″ seen″ m) where
-    turn-of : (g : Grammar) → Known ws places n rules sizes vs g → SeenTurn g vs r us′ seen′ us″ seen″ m
+    turn-of : (g : Grammar) → LeastsKnown ws places n rules sizes vs g → SeenTurn g vs r us′ seen′ us″ seen″ m
     turn-of g known = turn-alone known h long (rw (e, e′, e″, found) at step)
 
     -- the next rule lowers a figure
@@ -261,7 +261,7 @@ module _ {ws places : List ℕ} {n rules : ℕ} {sizes vs : List ℕ} where
     pub followed-end : m ≡ 0 → (f ≤ 1) × Fallen us us″ f
     followed-end none = (so-far .once, omega (arith, so-far .fallen, context-fallen step))
 
-    pub followed-turn : m ≡ 0 → (g : Grammar) → Known ws places n rules sizes vs g → SeenTurn g vs k us seen us″ seen″ f
+    pub followed-turn : m ≡ 0 → (g : Grammar) → LeastsKnown ws places n rules sizes vs g → SeenTurn g vs k us seen us″ seen″ f
     followed-turn none g known = record {
       keeps = λ stands. turn-of g known .keeps (so-far .keeps g known stands);
       still = λ z stands.
@@ -273,7 +273,7 @@ module _ {ws places : List ℕ} {n rules : ℕ} {sizes vs : List ℕ} where
   -- there is no next rule
   pub followed-out : {k f r : ℕ} {us us′ seen seen′ : List ℕ} →
       ContextsFollowed ws places n rules sizes vs k us seen us′ seen′ f r → k < rules → rules ≤ r →
-      (g : Grammar) → Known ws places n rules sizes vs g → SeenTurn g vs k us seen us′ seen′ f
+      (g : Grammar) → LeastsKnown ws places n rules sizes vs g → SeenTurn g vs k us seen us′ seen′ f
   followed-out so-far h past g known = record {
     keeps = so-far .keeps g known;
     still = λ z stands. let (same, same′, is) = so-far .first z in absurd (omega arith);

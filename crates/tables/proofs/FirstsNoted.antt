@@ -8,7 +8,7 @@ use native.Mathlib.Decide.{decLt, ℕ-discrete}
 use lib.ListN.{length, getD, getD-replicate, length-replicate}
 use lib.Seq.{getD-set-same, getD-set-other}
 use Rattle.entries.specs.Table.{noChoice}
-use Rattle.tables.specs.Choices.{choice, NoChoices, First, none-has, first, Noted, noted, kept}
+use Rattle.tables.specs.Choices.{choice, NoChoices, FirstBelow, none-has, first, Noted, noted, kept}
 
 -- a choice that has a place is the word there, whatever stands for none
 pub choice-is : (xs : List ℕ) (a d : ℕ) → a < length xs → getD xs a d ≡ choice xs a
@@ -18,7 +18,7 @@ choice-is (x ∷ xs) (suc a) d h = choice-is xs a d (omega arith)
 
 module _ {P : ℕ → Type 0} {n : ℕ} where
   -- the numbers that follow do not fit
-  first-past : {x : ℕ} → First P n x → (m : ℕ) → n ≤ m → ((q : ℕ) → n ≤ q → q < m → ¬ P q) → First P m x
+  first-past : {x : ℕ} → FirstBelow P n x → (m : ℕ) → n ≤ m → ((q : ℕ) → n ≤ q → q < m → ¬ P q) → FirstBelow P m x
   first-past (none-has unfit) m l past = none-has (λ q h. split q h (decLt q n))
     where
       split : (q : ℕ) → q < m → Dec (q < n) → ¬ P q
@@ -27,12 +27,12 @@ module _ {P : ℕ → Type 0} {n : ℕ} where
   first-past (first {k} h fits unfit) m l past = first {k = k} (omega arith) fits unfit
 
   -- there is one already
-  first-stays : {x : ℕ} → First P n x → ¬ (x ≡ noChoice) → First P (n + 1) x
+  first-stays : {x : ℕ} → FirstBelow P n x → ¬ (x ≡ noChoice) → FirstBelow P (n + 1) x
   first-stays (none-has unfit) has = absurd (has refl)
   first-stays (first {k} h fits unfit) has = first {k = k} (omega arith) fits unfit
 
   -- there is none, and the next number fits
-  first-found : {x : ℕ} → First P n x → x ≡ noChoice → n < noChoice → P n → First P (n + 1) n
+  first-found : {x : ℕ} → FirstBelow P n x → x ≡ noChoice → n < noChoice → P n → FirstBelow P (n + 1) n
   first-found (none-has unfit) none small fits = first {k = n} (omega arith) fits unfit
   first-found (first h f unfit) none small fits = absurd (omega arith)
 
@@ -41,7 +41,7 @@ empty-room xs empty = rw empty (length-replicate {A = ℕ} 128 noChoice)
 
 module _ (P : ℕ → ℕ → Type 0) (N : ℕ) where
   abbrev Firsts : List ℕ → ℕ → Type 0
-  Firsts xs n = (A : ℕ) → A < N → First (P A) n (choice xs A)
+  Firsts xs n = (A : ℕ) → A < N → FirstBelow (P A) n (choice xs A)
 
   -- at the outset there is none
   pub firsts-empty : (xs : List ℕ) → NoChoices xs → N ≤ 128 → Firsts xs 0
@@ -58,11 +58,11 @@ module _ (P : ℕ → ℕ → Type 0) (N : ℕ) where
       ((A : ℕ) → P A n → A ≡ a) → Firsts xs n → Firsts ys (n + 1)
   firsts-noted {xs} {ys} {a} {n} z room small fits only so-far A l = go (ℕ-discrete A a) z
     where
-      others : ¬ (A ≡ a) → First (P A) (n + 1) (choice xs A)
+      others : ¬ (A ≡ a) → FirstBelow (P A) (n + 1) (choice xs A)
       others d =
           first-past (so-far A l) (n + 1) (omega arith) (λ q low high f. let e : q ≡ n = omega arith in d (only A (rw e at f)))
 
-      go : {us : List ℕ} → Dec (A ≡ a) → Noted xs a n us → First (P A) (n + 1) (choice us A)
+      go : {us : List ℕ} → Dec (A ≡ a) → Noted xs a n us → FirstBelow (P A) (n + 1) (choice us A)
       go (yes e) (noted h none) = rw (e, getD-set-same xs a n noChoice h) (first-found (rw e at (so-far A l)) none small fits)
       go (yes e) (kept has) = first-stays (so-far A l) (rw e (has (omega arith)))
       go (no d) (noted h none) = rw (getD-set-other xs a A n noChoice d) (others d)

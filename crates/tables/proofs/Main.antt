@@ -10,7 +10,7 @@ use Rattle.grammar.specs.Refusals.{Lowest, NoTree, AllTrees, Unreached}
 use Rattle.entries.specs.Table.{Own}
 use Rattle.tables.specs.Answers.{Case, answer, of-words}
 use Rattle.tables.specs.Dead.{Dead, SaysDead}
-use Rattle.tables.specs.Given.{Given, Filled}
+use Rattle.tables.specs.Given.{Given, TableInFront}
 use Rattle.tables.specs.Promise.{Tables}
 use Rattle.tables.specs.declared.TableAnswer.{TableAnswer}
 use Rattle.tables.specs.declared.TableAnswer.the-variants.{Done, Refused}
@@ -42,7 +42,7 @@ pub tables-keeps : {words before after : List ℕ} {a : TableAnswer} → Tables 
 tables-keeps = TablesExact.tables-keeps
 
 pub tables-writes : {words before after : List ℕ} {a : TableAnswer} → Tables words before a after →
-    (n : ℕ) → a ≡ Done n → Are words (Filled before after)
+    (n : ℕ) → a ≡ Done n → Are words (TableInFront before after)
 tables-writes = TablesExact.tables-writes
 
 -- What it wrote is the own table of an accepted grammar.

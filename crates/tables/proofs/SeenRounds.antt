@@ -14,7 +14,7 @@ use Rattle.grammar.specs.Words.{Grammar}
 use Rattle.figures.specs.Figures.{noFigure, figure, turn}
 use Rattle.figures.specs.Weights.{Fallen}
 use Rattle.tables.specs.ContextFigures.{ContextsSound, ContextQuiet}
-use Rattle.tables.specs.ContextSteps.{Known, Stands, SeenTurn, SeenRound}
+use Rattle.tables.specs.ContextSteps.{LeastsKnown, Stands, SeenTurn, SeenRound}
 use Rattle.figures.proofs.EachTurn.{each-turn}
 
 module _ (g : Grammar) (vs : List ℕ) where
@@ -83,7 +83,7 @@ module _ (ws places : List ℕ) (n rules : ℕ) (sizes vs : List ℕ) where
     pub same-seen : length seen′ ≡ length seen
     pub few : f ≤ i
     pub fallen : Fallen us us′ f
-    pub turns : (g : Grammar) → Known ws places n rules sizes vs g → SeenTurns g vs up rules i us seen us′ seen′ f
+    pub turns : (g : Grammar) → LeastsKnown ws places n rules sizes vs g → SeenTurns g vs up rules i us seen us′ seen′ f
 
   pub none-seen : {up : Bool} (us seen : List ℕ) → SeenSoFar up 0 us seen us seen 0
   none-seen us seen = record {
@@ -99,7 +99,7 @@ module _ (ws places : List ℕ) (n rules : ℕ) (sizes vs : List ℕ) where
   pub one-more-seen : {up : Bool} {i m f k : ℕ} {us us′ us″ seen seen′ seen″ : List ℕ} → i < rules →
       SeenSoFar up i us seen us′ seen′ m → k ≡ turn up rules i → length us″ ≡ length us′ → length seen″ ≡ length seen′ →
       f ≤ 1 → Fallen us′ us″ f →
-      ((g : Grammar) → Known ws places n rules sizes vs g → SeenTurn g vs k us′ seen′ us″ seen″ f) →
+      ((g : Grammar) → LeastsKnown ws places n rules sizes vs g → SeenTurn g vs k us′ seen′ us″ seen″ f) →
       SeenSoFar up (i + 1) us seen us″ seen″ (m + f)
   one-more-seen h so-far in-turn same same′ once fallen last = record {
     within = omega arith;
@@ -111,5 +111,5 @@ module _ (ws places : List ℕ) (n rules : ℕ) (sizes vs : List ℕ) where
   }
 
   pub all-seen : {up : Bool} {i f : ℕ} {us us′ seen seen′ : List ℕ} → SeenSoFar up i us seen us′ seen′ f → i ≡ rules →
-      (g : Grammar) → Known ws places n rules sizes vs g → SeenRound g vs rules us seen us′ seen′ f
+      (g : Grammar) → LeastsKnown ws places n rules sizes vs g → SeenRound g vs rules us seen us′ seen′ f
   all-seen so-far end g known = turns-all g vs (rw end at (so-far .turns g known))

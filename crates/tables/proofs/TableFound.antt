@@ -22,7 +22,7 @@ use Rattle.grammar.proofs.ContextsExist.{holds-below}
 use Rattle.entries.specs.Table.{noChoice, IsTable}
 use Rattle.figures.specs.Figures.{figure}
 use Rattle.tables.specs.ContextFigures.{SizesOf}
-use Rattle.tables.specs.Choices.{choice, First, none-has, first, RuleFits, ChosenOf, PlaceFits, LeadsOf}
+use Rattle.tables.specs.Choices.{choice, FirstBelow, none-has, first, RuleFits, ChosenOf, PlaceFits, LeadsOf}
 use Rattle.tables.specs.Filling.{contextRule, contextPlace, foundIn}
 use Rattle.entries.proofs.SizeApart.{size-apart}
 use Rattle.entries.specs.Writing.{tableOf}
@@ -44,7 +44,7 @@ record FirstOf (P : ℕ → Type 0) (n x : ℕ) : Type 0 where
   such : P x
   least : (j : ℕ) → P j → x ≤ j
 
-first-of : {P : ℕ → Type 0} {n x : ℕ} → First P n x → (k : ℕ) → k < n → P k → FirstOf P n x
+first-of : {P : ℕ → Type 0} {n x : ℕ} → FirstBelow P n x → (k : ℕ) → k < n → P k → FirstOf P n x
 first-of (none-has none) k l p = absurd (none k l p)
 first-of {P} (first {k = x} l p before) k m q = record { below = l; such = p; least = λ j r. go j r (decLt j x) }
   where
@@ -52,7 +52,7 @@ first-of {P} (first {k = x} l p before) k m q = record { below = l; such = p; le
     go j r (yes h) = absurd (before j h r)
     go j r (no h) = omega arith
 
-none-of : {P : ℕ → Type 0} {n x : ℕ} → First P n x → ((k : ℕ) → ¬ P k) → x ≡ noChoice
+none-of : {P : ℕ → Type 0} {n x : ℕ} → FirstBelow P n x → ((k : ℕ) → ¬ P k) → x ≡ noChoice
 none-of (none-has none) never = refl
 none-of (first {k = x} l p before) never = absurd (never x p)
 

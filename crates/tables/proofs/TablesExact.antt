@@ -21,7 +21,7 @@ use Rattle.tables.specs.Answers.{Case, answer, done, of-words, too-short
 use Rattle.tables.specs.Promise.{Tables, row-4-7, row-3, row-done}
 use Rattle.tables.specs.declared.TableAnswer.{TableAnswer}
 use Rattle.tables.specs.declared.TableAnswer.the-variants.{Done, Refused}
-use Rattle.tables.specs.Given.{Given, Filled}
+use Rattle.tables.specs.Given.{Given, TableInFront}
 use Rattle.entries.proofs.TableExists.{table-exists}
 use Rattle.tables.proofs.TablesSettles.{tables-settles}
 
@@ -70,11 +70,11 @@ module _ (words before : List ℕ) where
       not-refused : {n k p : ℕ} → Done n ≡ Refused k p → ⊥
       not-refused e = let z : _≡_ {A = ℕ} 0 1 = cc in omega arith
 
-  filled : {n : ℕ} {after : List ℕ} → Tables words before (Done n) after → Are words (Filled before after)
+  filled : {n : ℕ} {after : List ℕ} → Tables words before (Done n) after → Are words (TableInFront before after)
   unfolding over
   filled (row-done {g = g} {table = table} e a l is) =
       let behind = drop (length table) before in
-      let z : Filled before (table ++ behind) g = record {
+      let z : TableInFront before (table ++ behind) g = record {
         table = rw (take-at table behind (tableLength g) (is .long)) is;
         behind = drop-at table behind (tableLength g) (is .long) ∙ ap (λ (n : ℕ). drop n before) (is .long);
       } in
@@ -102,7 +102,7 @@ module _ {words before after : List ℕ} {a : TableAnswer} (p : Tables words bef
   pub tables-keeps : (k q : ℕ) → a ≡ Refused k q → after ≡ before
   tables-keeps k q e = kept words before p e
 
-  pub tables-writes : (n : ℕ) → a ≡ Done n → Are words (Filled before after)
+  pub tables-writes : (n : ℕ) → a ≡ Done n → Are words (TableInFront before after)
   tables-writes n e = filled words before (rw e at p)
 
   -- so that what was written is the own table of an accepted grammar

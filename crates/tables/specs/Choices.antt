@@ -18,9 +18,9 @@ abbrev pub NoChoices : List ℕ → Type 0
 NoChoices xs = xs ≡ replicate 128 noChoice
 
 -- The first number below n with a property, or `noChoice` where none has it.
-pub data First (P : ℕ → Type 0) (n : ℕ) : ℕ → Type 0 where
-  none-has : ((k : ℕ) → k < n → ¬ P k) → First P n noChoice
-  first : {k : ℕ} → k < n → P k → ((j : ℕ) → j < k → ¬ P j) → First P n k
+pub data FirstBelow (P : ℕ → Type 0) (n : ℕ) : ℕ → Type 0 where
+  none-has : ((k : ℕ) → k < n → ¬ P k) → FirstBelow P n noChoice
+  first : {k : ℕ} → k < n → P k → ((j : ℕ) → j < k → ¬ P j) → FirstBelow P n k
 
 -- rule k is one of A, and its size is A's least
 pub record RuleFits (g : Grammar) (vs sizes : List ℕ) (A k : ℕ) : Type 0 where
@@ -29,7 +29,7 @@ pub record RuleFits (g : Grammar) (vs sizes : List ℕ) (A k : ℕ) : Type 0 whe
   pub same : figure vs A ≡ getD sizes k 0
 
 abbrev pub ChosenOf : Grammar → List ℕ → List ℕ → List ℕ → ℕ → Type 0
-ChosenOf g vs sizes chosen n = (A : ℕ) → A < g .N → First (RuleFits g vs sizes A) n (choice chosen A)
+ChosenOf g vs sizes chosen n = (A : ℕ) → A < g .N → FirstBelow (RuleFits g vs sizes A) n (choice chosen A)
 
 -- rule k has A at place i, the two as one number 32 k + i, and the rule's total is the least of A and the context of A
 pub record PlaceFits (g : Grammar) (vs us totals : List ℕ) (A q : ℕ) : Type 0 where
@@ -43,7 +43,7 @@ pub record PlaceFits (g : Grammar) (vs us totals : List ℕ) (A q : ℕ) : Type 
   pub same : figure vs A + figure us A ≡ getD totals k 0
 
 abbrev pub LeadsOf : Grammar → List ℕ → List ℕ → List ℕ → List ℕ → ℕ → Type 0
-LeadsOf g vs us totals leads n = (A : ℕ) → A < g .N → First (PlaceFits g vs us totals A) n (choice leads A)
+LeadsOf g vs us totals leads n = (A : ℕ) → A < g .N → FirstBelow (PlaceFits g vs us totals A) n (choice leads A)
 
 -- a number noted where there is none yet, and left where there is one, or no place for it
 pub data Noted (before : List ℕ) (a number : ℕ) : List ℕ → Type 0 where

@@ -53,7 +53,7 @@ pub record SeenRound (g : Grammar) (vs : List ℕ) (rules : ℕ) (us seen us′ 
   pub still : n ≡ 0 → Stands g vs us seen → (us′ ≡ us) × ((k : ℕ) → k < rules → ContextQuiet g vs us k)
 
 -- what the rounds go by: the words of a grammar, its leasts, and the sizes of its rules by them
-pub record Known (ws places : List ℕ) (n rules : ℕ) (sizes vs : List ℕ) (g : Grammar) : Type 0 where
+pub record LeastsKnown (ws places : List ℕ) (n rules : ℕ) (sizes vs : List ℕ) (g : Grammar) : Type 0 where
   pub view : View ws places n rules g
   pub done : LeastsDone g vs
   pub sized : SizesOf g vs sizes

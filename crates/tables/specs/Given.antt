@@ -18,6 +18,6 @@ Given words before (too-short n) = Are words (λ g. Accepted limit g × (n ≡ t
 Given words before (done n) = Are words (λ g. Accepted limit g × (n ≡ tableLength g) × (n ≤ length before))
 
 -- what Done says of the buffer: the grammar's table in front, and what lay behind it
-pub record Filled (before after : List ℕ) (g : Grammar) : Type 0 where
+pub record TableInFront (before after : List ℕ) (g : Grammar) : Type 0 where
   pub table : HasTable g after
   pub behind : drop (tableLength g) after ≡ drop (tableLength g) before

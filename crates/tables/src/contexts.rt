@@ -8,7 +8,7 @@ ghost use Rattle.figures.specs.Weights.{Fallen};
 ghost use Rattle.tables.specs.ContextFigures.{SizesOf, LeastsDone};
 ghost use Rattle.layout.specs.View.{View};
 ghost use Rattle.tables.specs.ContextFigures.{ContextsSound, ContextsRest, TotalsOf};
-ghost use Rattle.tables.specs.ContextSteps.{PlaceStep, PlacesStep, ContextStep, SeenTurn, SeenRound, Known};
+ghost use Rattle.tables.specs.ContextSteps.{PlaceStep, PlacesStep, ContextStep, SeenTurn, SeenRound, LeastsKnown};
 use crate::chains::link;
 use crate::chains::note_rules;
 use entries::NO_CHOICE;
@@ -113,10 +113,10 @@ fn context_turn(
     contexts: &mut [u16],
 ) -> usize
     requires { ⌜ (counts .rules ≤ 256) × ((first < counts .rules) × ((256 ≤ length (now seen)) × (128 ≤ length (now contexts)))) ⌝ }
-    requires { ⌜ ((g : Grammar) × Known (now words) (now places) (counts .n) (counts .rules) (now sizes) (now leasts) g) ⌝ }
+    requires { ⌜ ((g : Grammar) × LeastsKnown (now words) (now places) (counts .n) (counts .rules) (now sizes) (now leasts) g) ⌝ }
     ensures { λ fell. ⌜ (fell ≤ 1) × Fallen (now (contexts .entry)) (now (contexts .exit)) fell ⌝ }
     ensures { λ fell. ⌜ ((g : Grammar) →
-        Known (now (words .entry)) (now (places .entry)) (counts .n) (counts .rules) (now (sizes .entry)) (now (leasts .entry)) g →
+        LeastsKnown (now (words .entry)) (now (places .entry)) (counts .n) (counts .rules) (now (sizes .entry)) (now (leasts .entry)) g →
         SeenTurn g (now (leasts .entry)) first (now (contexts .entry)) (now (seen .entry))
         (now (contexts .exit)) (now (seen .exit)) fell) ⌝ }
 {
@@ -148,10 +148,10 @@ fn context_round(
     contexts: &mut [u16],
 ) -> usize
     requires { ⌜ (counts .rules ≤ 256) × ((256 ≤ length (now seen)) × (128 ≤ length (now contexts))) ⌝ }
-    requires { ⌜ ((g : Grammar) × Known (now words) (now places) (counts .n) (counts .rules) (now sizes) (now leasts) g) ⌝ }
+    requires { ⌜ ((g : Grammar) × LeastsKnown (now words) (now places) (counts .n) (counts .rules) (now sizes) (now leasts) g) ⌝ }
     ensures { λ r. ⌜ Fallen (now (contexts .entry)) (now (contexts .exit)) r ⌝ }
     ensures { λ r. ⌜ ((g : Grammar) →
-        Known (now (words .entry)) (now (places .entry)) (counts .n) (counts .rules) (now (sizes .entry)) (now (leasts .entry)) g →
+        LeastsKnown (now (words .entry)) (now (places .entry)) (counts .n) (counts .rules) (now (sizes .entry)) (now (leasts .entry)) g →
         SeenRound g (now (leasts .entry)) (counts .rules) (now (contexts .entry)) (now (seen .entry))
         (now (contexts .exit)) (now (seen .exit)) r) ⌝ }
 {
@@ -186,7 +186,7 @@ pub fn context_rounds(
     contexts: &mut [u16],
 )
     requires { ⌜ (rules ≤ 256) × (128 ≤ length (now contexts)) ⌝ }
-    requires { ⌜ ((g : Grammar) × Known (now words) (now places) n rules (now sizes) (now leasts) g) ⌝ }
+    requires { ⌜ ((g : Grammar) × LeastsKnown (now words) (now places) n rules (now sizes) (now leasts) g) ⌝ }
     ensures { λ _. ⌜ ((g : Grammar) → View (now (words .entry)) (now (places .entry)) n rules g →
         LeastsDone g (now (leasts .entry)) → SizesOf g (now (leasts .entry)) (now (sizes .entry)) →
         ContextsSound g (now (contexts .entry)) → ContextsRest g (now (leasts .entry)) (now (contexts .exit))) ⌝ }

@@ -4,7 +4,7 @@ use mathlib.Core.Path.{_≡_, refl}
 use lib.ListN.{length}
 use borrow.Author.Tests.{not-true, not-false}
 use Rattle.suite.proofs.MoreLines.{true-not-false, count-few, sentence-more, Filling, filling-begins, filling-goes-on, filling-ends}
-use Rattle.suite.proofs.MoreLines.{Room, room-left, no-room-left, turns, turns-fall}
+use Rattle.suite.proofs.MoreLines.{LineRoom, room-left, no-room-left, turns, turns-fall}
 use borrow.Author.Needs.{needs}
 use Rattle.suite.proofs.fill.Statement.{statement}
 use Rattle.grammar.specs.Terms.{limit}
@@ -13,7 +13,7 @@ use Rattle.suite.proofs.fill.Tie as tie
 abbrev Inv-loop : tie.InvT-loop
 Inv-loop words table marks₀ text₀ sentence₀ derivation₀ so₀ marks text sentence derivation so =
     (length marks ≡ length marks₀) × (length text ≡ length text₀) × (limit ≡ length sentence) × (limit ≡ length derivation) ×
-    Room marks sentence derivation × Filling words table marks₀ marks text₀ text so₀ so
+    LineRoom marks sentence derivation × Filling words table marks₀ marks text₀ text so₀ so
 
 abbrev μ-loop : tie.MeasureT-loop
 μ-loop words table marks₀ text₀ sentence₀ derivation₀ so₀ marks text sentence derivation so = turns (so .over) (so .count)

@@ -5,7 +5,7 @@ use native.Mathlib.Omega.{arith}
 use borrow.Author.Needs.{needs}
 use lib.ListN.{length-set}
 use Rattle.layout.proofs.WordsRead.{view-few}
-use Rattle.tables.specs.ContextSteps.{Known}
+use Rattle.tables.specs.ContextSteps.{LeastsKnown}
 use Rattle.tables.proofs.Outcomes.{start-few, contexts-start, refuses-6, placed}
 use Rattle.tables.proofs.build.of_leasts.Statement.{statement}
 use Rattle.tables.proofs.build.of_leasts.Tie as tie
@@ -23,7 +23,7 @@ context-rounds-requires : tie.Need-context-rounds-requires
 context-rounds-requires c κs =
     let p = c .before .before .before .before .before .pre in
     let few = view-few (p .view) in
-    let known : Known _ _ _ _ _ _ (p .grammar) = record { view = p .view; done = p .leasts; sized = p .sizes-are } in
+    let known : LeastsKnown _ _ _ _ _ _ (p .grammar) = record { view = p .view; done = p .leasts; sized = p .sizes-are } in
     ((omega (arith, few), simp length-set (search needs)), (p .grammar, known))
 
 slice-aggregate-first-above : tie.Need-slice-aggregate-first-above

@@ -6,7 +6,7 @@ use native.Mathlib.Omega.{arith}
 use lib.ListN.{length}
 use Rattle.grammar.specs.Words.{Grammar}
 use Rattle.figures.specs.Weights.{weight}
-use Rattle.tables.specs.ContextSteps.{Known}
+use Rattle.tables.specs.ContextSteps.{LeastsKnown}
 use Rattle.tables.proofs.SeenRounds.{SeenRounds, rounds-none, rounds-more, outset}
 use borrow.Author.Needs.{needs}
 use Rattle.tables.proofs.contexts.context_rounds.Statement.{statement}
@@ -15,7 +15,7 @@ use Rattle.tables.proofs.contexts.context_rounds.Tie as tie
 abbrev Inv-loop : tie.InvT-loop
 Inv-loop words places n rules sizes leasts contexts₀ owned seen₀ counts fell₀ up₀ contexts seen fell up =
     (length contexts ≡ length contexts₀) × (length seen ≡ 256) ×
-    ((g : Grammar) → Known words places n rules sizes leasts g → SeenRounds g leasts rules contexts₀ seen₀ contexts seen fell)
+    ((g : Grammar) → LeastsKnown words places n rules sizes leasts g → SeenRounds g leasts rules contexts₀ seen₀ contexts seen fell)
 
 abbrev μ-loop : tie.MeasureT-loop
 μ-loop words places n rules sizes leasts contexts₀ owned seen₀ counts fell₀ up₀ contexts seen fell up = weight contexts + fell
