@@ -30,10 +30,13 @@ use Rattle.marks.specs.declared.LowestUnused.the-variants.{At, None}
 use Rattle.handout.specs.Next.{Lent, Marked, Wanted, NextPromise}
 use Rattle.handout.specs.Next.{row-4-7, row-8, row-9, row-finished, row-3, row-10, row-next}
 use Rattle.handout.specs.RowsPassed.{UpToEight, words-refused, table-refused, PastEight, Requested}
+use Rattle.handout.specs.RowsPassed.{Decided, says, writes, RoomDecided, DecidedOf}
 use Rattle.handout.specs.Listing.{Wrote}
 use Rattle.handout.specs.TreeListing.{TreeReady, TreeCounted, TreeFits, TreeListed, none-so-far}
 use Rattle.handout.specs.declared.NextAnswer.{NextAnswer}
 use Rattle.handout.specs.declared.NextAnswer.the-variants.{Refused, Finished, Next}
+use Rattle.handout.specs.declared.answer.Decision.{Decision}
+use Rattle.handout.specs.declared.answer.Decision.the-variants.{Answer, Write}
 use Rattle.handout.specs.declared.tree_lister.Request.{Request}
 use Rattle.handout.specs.declared.lister.Lengths.{Lengths}
 use Rattle.handout.proofs.Targets.{lowest-found, none-found}
@@ -65,17 +68,16 @@ module _ {words buffer : List ℕ} where
       (λ three. table-refused (g, read, ok), λ n. absurd (n (let same : k ≡ 3 = cc in same)))
   refused-without (tables.row-done read ok l is) e = absurd (let z : _≡_ {A = ℕ} 0 1 = cc in omega arith)
 
-module _ {words table : List ℕ} (before : Lent) where
-  pub refuses-untabled : {r : TableTest} {a : NextAnswer} → Tested words table r → r ≡ test.NotIts → UpToEight words a →
-      NextPromise words table before a before
-  refuses-untabled {a = a} t e = refuse (none (rw e at t))
-    where
-      none : Tested words table test.NotIts → ¬ Are words (Own table)
-      none (not-its n) = n
+pub refuses-untabled : {words places table : List ℕ} {r : TableTest} {a : NextAnswer} → Tested words table r → r ≡ test.NotIts →
+    UpToEight words a → (before : Lent) → Decided words places table before (Answer a)
+refuses-untabled {words} {places} {table} t e u before = refuse (none (rw e at t)) u
+  where
+    none : Tested words table test.NotIts → ¬ Are words (Own table)
+    none (not-its n) = n
 
-      refuse : ¬ Are words (Own table) → {a : NextAnswer} → UpToEight words a → NextPromise words table before a before
-      refuse n (words-refused r) = row-4-7 r
-      refuse n (table-refused (g, read, ok)) = row-8 read ok (λ has. n (g, read, (ok, has)))
+    refuse : ¬ Are words (Own table) → {a : NextAnswer} → UpToEight words a → Decided words places table before (Answer a)
+    refuse n (words-refused r) = says (row-4-7 r)
+    refuse n (table-refused (g, read, ok)) = says (row-8 read ok (λ has. n (g, read, (ok, has))))
 
 -- and else the table is the grammar's, whose rules stand where the test noted them; N and the start are handed on as words
 pub own-table : {words table : List ℕ} {r : Testing} {n start rules n′ start′ : ℕ} → TestPromise words table r →
@@ -99,35 +101,42 @@ own-table {words} {table} {r} {n} {start} {rules} {n′} {start′} p is same sa
         })
 
 -- with the table: 9, Finished, or a target
-module _ {words places table : List ℕ} {n start rules : ℕ} (t : PastEight words places table n start rules) where
-  pub refuses-9 : (before : Lent) → length (before .marks) < rules → NextPromise words table before (Refused 9 rules) before
-  refuses-9 before l =
+module _ {words places table : List ℕ} {n start rules : ℕ} (t : PastEight words places table n start rules) {marks : List ℕ} where
+  pub refuses-9 : length marks < rules → (before : Lent) → before .marks ≡ marks →
+      Decided words places table before (Answer (Refused 9 rules))
+  refuses-9 l before e =
       let all = t .all-rules in
-      rw all (row-9 (t .known .view .is) (t .accepted) (t .known .tabled) (omega arith))
+      let same = ap length e in
+      says {a = Refused 9 rules} (rw all (row-9 (t .known .view .is) (t .accepted) (t .known .tabled) (omega arith)))
 
-  module _ {found : LowestUnused} where
-    pub finishes : (before : Lent) → FirstUnused (before .marks) rules found → found ≡ None → rules ≤ length (before .marks) →
-        NextPromise words table before Finished before
-    finishes before f q l =
+  module _ {found : LowestUnused} (f : FirstUnused marks rules found) (enough : rules ≤ length marks) where
+    pub finishes : found ≡ None → (before : Lent) → before .marks ≡ marks → Decided words places table before (Answer Finished)
+    finishes q before e =
         let all = t .all-rules in
-        row-finished (t .known .view .is) (t .accepted) (t .known .tabled) (omega arith) (none-found (t .g) f all q)
+        let used = none-found (t .g) f all q in
+        let same = ap length e in
+        says (row-finished (t .known .view .is) (t .accepted) (t .known .tabled) (omega arith) (rw e used))
 
-    pub requests : {marks : List ℕ} {r r′ total : ℕ} → FirstUnused marks rules found → found ≡ At r → rules ≤ length marks →
-        (r ≤ 65535 → r′ ≡ r) → total ≡ totalIn n table r′ →
-        Requested words places table marks (record { n = n; start = start; target = r; total = total })
-    requests {r = r} {r′ = r′} f q l same is =
-        let all = t .all-rules in
-        let low = lowest-found (t .g) f all r q in
-        let number : r′ ≡ r = same (omega (arith, number-low (t .known) (low .such .rule))) in
-        record {
-          g = t .g;
-          accepted = t .accepted;
-          known = t .known;
-          starts-at = t .starts-at;
-          marked = omega arith;
-          target = low;
-          total = is ∙ ap (totalIn n table) number;
-        }
+    module _ {r r′ total : ℕ} (at : found ≡ At r) (narrowed : r ≤ 65535 → r′ ≡ r) (is : total ≡ totalIn n table r′) where
+      pub requests : Requested words places table marks (record { n = n; start = start; target = r; total = total })
+      requests =
+          let all = t .all-rules in
+          let low = lowest-found (t .g) f all r at in
+          let number : r′ ≡ r = narrowed (omega (arith, number-low (t .known) (low .such .rule))) in
+          record {
+            g = t .g;
+            accepted = t .accepted;
+            known = t .known;
+            starts-at = t .starts-at;
+            marked = omega arith;
+            target = low;
+            total = is ∙ ap (totalIn n table) number;
+          }
+
+      pub decides : {tokens numbers : ℕ} {d : Decision} →
+          RoomDecided words places table (record { n = n; start = start; target = r; total = total }) tokens numbers d →
+          DecidedOf words places table marks tokens numbers d
+      decides room before e = room before (rw e requests)
 
 -- the target's tree
 module _ {words places table marks : List ℕ} {q : Request} (p : Requested words places table marks q) where
@@ -172,20 +181,42 @@ fits-counted tokens rules counts l m = λ g known s t tree.
     (omega arith, omega arith)
 
 -- 3, 10, or the sentence
+module _ {words places table : List ℕ} {q : Request} {tokens numbers : ℕ} where
+  pub room-by-total : (q .total ≤ tokens) × (q .total ≤ numbers) → RoomDecided words places table q tokens numbers (Write q)
+  room-by-total within before p e f = writes p (fits-total p (before .tokens) (before .rules) (omega arith, omega arith))
+
+  module _ {so : Lengths} (counts : TreeCounted words places table (q .n) (q .start) (q .target) so) where
+    pub refuses-3 : tokens < so .tokens → RoomDecided words places table q tokens numbers (Answer (Refused 3 (so .tokens)))
+    refuses-3 l before p e f =
+        let c = counts (p .g) (p .known) (p .starts-at) (tree-of p .0) (tree-of p .1) .0 in
+        says {a = Refused 3 (so .tokens)} (rw c (row-3 (wanted p) (omega arith)))
+
+    pub refuses-10 : so .tokens ≤ tokens → numbers < so .rules →
+        RoomDecided words places table q tokens numbers (Answer (Refused 10 (so .rules)))
+    refuses-10 l m before p e f =
+        let c = counts (p .g) (p .known) (p .starts-at) (tree-of p .0) (tree-of p .1) .0 in
+        let d = counts (p .g) (p .known) (p .starts-at) (tree-of p .0) (tree-of p .1) .1 in
+        says {a = Refused 10 (so .rules)} (rw d (row-10 (wanted p) (omega arith) (omega arith)))
+
+    pub room-counted : so .tokens ≤ tokens → so .rules ≤ numbers → RoomDecided words places table q tokens numbers (Write q)
+    room-counted l m before p e f = writes p (fits-counted (before .tokens) (before .rules) counts (omega arith) (omega arith))
+
+-- what is decided is answered, or written
+module _ {words places table : List ℕ} {before : Lent} where
+  pub decided-answer : {d : Decision} {a : NextAnswer} → Decided words places table before d → d ≡ Answer a →
+      NextPromise words table before a before
+  decided-answer {a = a} (says {a = b} p) e = let same : b ≡ a = cc in rw (← same) p
+  decided-answer (writes p fits) e = absurd (let z : _≡_ {A = ℕ} 0 1 = cc in omega arith)
+
+  pub decided-write : {d : Decision} {q : Request} → Decided words places table before d → d ≡ Write q →
+      Requested words places table (before .marks) q ×
+      TreeFits words places table (q .n) (q .start) (q .target) (before .tokens) (before .rules)
+  decided-write (says p) e = absurd (let z : _≡_ {A = ℕ} 0 1 = cc in omega arith)
+  decided-write {q = q} (writes {q = q′} p fits) e = let same : q′ ≡ q = cc in rw (← same) (p, fits)
+
 module _ {words places table : List ℕ} {q : Request} (before : Lent) (p : Requested words places table (before .marks) q) where
   abbrev tree : Tree (p .g) (p .g .start)
   tree = tree-of p .0
-
-  module _ {so : Lengths} (counts : TreeCounted words places table (q .n) (q .start) (q .target) so) where
-    counted : (so .tokens ≡ length (sentence tree)) × (so .rules ≡ length (derivation tree))
-    counted = counts (p .g) (p .known) (p .starts-at) tree (tree-of p .1)
-
-    pub refuses-3 : length (before .tokens) < so .tokens → NextPromise words table before (Refused 3 (so .tokens)) before
-    refuses-3 l = let e = counted .0 in rw e (row-3 (wanted p) (omega arith))
-
-    pub refuses-10 : so .tokens ≤ length (before .tokens) → length (before .rules) < so .rules →
-        NextPromise words table before (Refused 10 (so .rules)) before
-    refuses-10 l m = let d = counted .0 in let e = counted .1 in rw e (row-10 (wanted p) (omega arith) (omega arith))
 
   -- what was written, and marked
   module _ {tokens rules : List ℕ} {so : Lengths}

@@ -11,9 +11,12 @@ use Rattle.grammar.specs.Rows.{GrammarRefused}
 use Rattle.grammar.specs.Terms.{limit}
 use Rattle.entries.specs.Table.{totalIn}
 use Rattle.handout.specs.Answers.{answer, of-words, not-its-table}
-use Rattle.handout.specs.Next.{Unused}
+use Rattle.handout.specs.Next.{Unused, Lent, NextPromise}
 use Rattle.handout.specs.Listing.{TableView}
+use Rattle.handout.specs.TreeListing.{TreeFits}
 use Rattle.handout.specs.declared.NextAnswer.{NextAnswer}
+use Rattle.handout.specs.declared.answer.Decision.{Decision}
+use Rattle.handout.specs.declared.answer.Decision.the-variants.{Answer, Write}
 use Rattle.handout.specs.declared.tree_lister.Request.{Request}
 
 -- the table is none of a grammar's own: the words are refused, by 4, 5, 6 or 7, or else the table is, by 8
@@ -39,3 +42,21 @@ pub record Requested (words places table marks : List ℕ) (q : Request) : Type 
   pub marked : R g ≤ length marks
   pub target : Lowest (Unused g marks) (q .target)
   pub total : q .total ≡ totalIn (q .n) table (q .target)
+
+-- what is found before a word is written: an answer with which the buffers are kept, or a request, with room for what is asked for
+pub data Decided (words places table : List ℕ) (before : Lent) : Decision → Type 0 where
+  says : {a : NextAnswer} → NextPromise words table before a before → Decided words places table before (Answer a)
+  writes : {q : Request} → Requested words places table (before .marks) q →
+      TreeFits words places table (q .n) (q .start) (q .target) (before .tokens) (before .rules) →
+      Decided words places table before (Write q)
+
+-- of whichever buffers have so much room, where the request is for their target; and of whichever have these marks besides
+abbrev pub RoomDecided : List ℕ → List ℕ → List ℕ → Request → ℕ → ℕ → Decision → Type 0
+RoomDecided words places table q tokens numbers d =
+    (before : Lent) → Requested words places table (before .marks) q → length (before .tokens) ≡ tokens →
+    length (before .rules) ≡ numbers → Decided words places table before d
+
+abbrev pub DecidedOf : List ℕ → List ℕ → List ℕ → List ℕ → ℕ → ℕ → Decision → Type 0
+DecidedOf words places table marks tokens numbers d =
+    (before : Lent) → before .marks ≡ marks → length (before .tokens) ≡ tokens → length (before .rules) ≡ numbers →
+    Decided words places table before d

@@ -47,9 +47,12 @@ FrontListed words places table n A tokens tokens′ rules rules′ past so =
     PartListed words places table n (λ g. RuleListing g (ruleIn table A) (frontOf words places table A))
     (1 + sizesBy n table (frontOf words places table A)) tokens tokens′ rules rules′ past so
 
--- the left side of A's context rule, and the nonterminal so many steps up
+-- the left side of rule k; that of A's context rule, and the nonterminal so many steps up
+abbrev pub leftOf : List ℕ → List ℕ → ℕ → ℕ
+leftOf words places k = getD words (getD places k 0) 0
+
 abbrev pub upper : List ℕ → List ℕ → List ℕ → ℕ → ℕ
-upper words places table A = getD words (getD places (ruleIn table A) 0) 0
+upper words places table A = leftOf words places (ruleIn table A)
 
 unfoldable pub climbed : List ℕ → List ℕ → List ℕ → ℕ → ℕ → ℕ
 climbed words places table A zero = A
@@ -166,6 +169,17 @@ abbrev pub TreeListed : List ℕ → List ℕ → List ℕ → ℕ → ℕ → �
 TreeListed words places table n start r tokens tokens′ rules rules′ so =
     (g : Grammar) → TableView words places table n g → start ≡ g .start → (t : Tree g (g .start)) → TreeOf measure g r t →
     Wrote (sentence t) (derivation t) tokens tokens′ rules rules′ none-so-far so
+
+-- the same by the path that leads up from the rule's left side
+pub record AlongReady (words places table : List ℕ) (n r : ℕ) (path : List ℕ) (steps : ℕ) : Type 0 where
+  pub start : ℕ
+  pub path-of : PathOf words places table start (leftOf words places r) path steps
+  pub ready : TreeReady words places table n start r
+
+abbrev pub AlongListed : List ℕ → List ℕ → List ℕ → ℕ → ℕ → List ℕ → ℕ → List ℕ → List ℕ → List ℕ → List ℕ → Lengths → Type 0
+AlongListed words places table n r path steps tokens tokens′ rules rules′ so =
+    (start : ℕ) → PathOf words places table start (leftOf words places r) path steps → TreeReady words places table n start r →
+    TreeListed words places table n start r tokens tokens′ rules rules′ so
 
 abbrev pub TreeCounted : List ℕ → List ℕ → List ℕ → ℕ → ℕ → ℕ → Lengths → Type 0
 TreeCounted words places table n start r so =

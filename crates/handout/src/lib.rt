@@ -5,8 +5,7 @@ mod lister;
 mod tree_lister;
 
 ghost use Rattle.handout.specs.Next.{Lent, NextPromise};
-use cells::narrow;
-use table_test::TableTest;
+use answer::Decision;
 
 // The numbers of the refusals that only `next` gives.
 pub const NOT_ITS_TABLE: u16 = 8;
@@ -44,19 +43,22 @@ pub fn next(
 {
     let testing = table_test::test(words, table);
     let found = testing.answer;
-    match found {
-        TableTest::NotIts => answer::without_table(words),
-        TableTest::Its {
-            nonterminals,
-            start,
-            rules,
-        } => answer::with_table(
+    let decision = answer::decide(
+        words,
+        &testing.places,
+        found,
+        table,
+        marks,
+        sentence.len(),
+        derivation.len(),
+    );
+    match decision {
+        Decision::Answer(answer) => answer,
+        Decision::Write(request) => answer::write_out(
             words,
             &testing.places,
-            narrow(nonterminals),
-            narrow(start),
-            rules,
             table,
+            request,
             marks,
             sentence,
             derivation,

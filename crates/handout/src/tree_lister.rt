@@ -3,7 +3,8 @@
 // noted on a path: contexts fall from each to the next, so that none comes twice.
 ghost use Rattle.handout.specs.Listing.{lengths, SymbolsListed};
 ghost use Rattle.handout.specs.TreeListing.{ClimbReady, PathOf, FrontReady, BackReady, FrontListed, backOf};
-ghost use Rattle.handout.specs.TreeListing.{before, after, WayReady, WayListed, TreeReady, TreeListed, none-so-far};
+ghost use Rattle.handout.specs.TreeListing.{before, after, WayReady, WayListed, none-so-far, TreeReady, TreeListed};
+ghost use Rattle.handout.specs.TreeListing.{AlongReady, AlongListed};
 use crate::lister::Lengths;
 use crate::lister::TOKEN;
 use crate::lister::list_rule;
@@ -161,7 +162,38 @@ fn list_after(
     so
 }
 
-// Lists the tree of the target: what lies before its left side, the rule, and what lies after.
+// Lists the tree of a rule by the path that leads up from its left side: what lies before it, the rule, and what lies after.
+fn list_along(
+    words: &[u16],
+    places: &[u16],
+    table: &[u16],
+    n: u16,
+    rule: u16,
+    path: &[u16],
+    steps: usize,
+    sentence: &mut [u16],
+    derivation: &mut [u16],
+) -> usize
+    requires { ⌜ AlongReady (now words) (now places) (now table) n rule (now path) steps ⌝ }
+    ensures { λ r. ⌜ AlongListed (now (words .entry)) (now (places .entry)) (now (table .entry)) n rule (now (path .entry)) steps
+        (now (sentence .entry)) (now (sentence .exit)) (now (derivation .entry)) (now (derivation .exit)) (lengths r) ⌝ }
+{
+    let above = list_before(words, places, table, n, path, steps, sentence, derivation);
+    let under = list_rule(words, places, table, n, rule, above, sentence, derivation);
+    list_after(
+        words,
+        places,
+        table,
+        n,
+        path,
+        steps,
+        under,
+        sentence,
+        derivation,
+    )
+}
+
+// Lists the tree of the target.
 pub fn list_tree(
     words: &[u16],
     places: &[u16],
@@ -176,29 +208,16 @@ pub fn list_tree(
         (now (sentence .entry)) (now (sentence .exit)) (now (derivation .entry)) (now (derivation .exit)) r ⌝ }
 {
     let mut path = [0u16; MOST_NONTERMINALS];
-    let n = request.n;
-    let target = request.target;
-    let left = read(words, rules::index(places, target));
+    let left = read(words, rules::index(places, request.target));
     let steps = climb(words, places, table, request.start, left, &mut path);
-    let above = list_before(words, places, table, n, &path, steps, sentence, derivation);
-    let under = list_rule(
+    let all = list_along(
         words,
         places,
         table,
-        n,
-        narrow(target),
-        above,
-        sentence,
-        derivation,
-    );
-    let all = list_after(
-        words,
-        places,
-        table,
-        n,
+        request.n,
+        narrow(request.target),
         &path,
         steps,
-        under,
         sentence,
         derivation,
     );

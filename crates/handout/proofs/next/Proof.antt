@@ -1,49 +1,51 @@
--- `handout::next` meets its contract: 4 to 8 without the table, and the others with it. Assumes nothing.
+-- `handout::next` meets its contract: what was decided is answered, or written. Assumes nothing.
 use borrow.Author.Needs.{needs}
-use Rattle.handout.proofs.NextOutcomes.{refuses-untabled, own-table}
+use mathlib.Core.Path.{refl}
+use Rattle.handout.specs.Next.{Lent}
+use Rattle.handout.proofs.NextOutcomes.{decided-answer, decided-write}
 use Rattle.handout.proofs.next.Statement.{statement}
 use Rattle.handout.proofs.next.Tie as tie
 
 test-requires : tie.Need-test-requires
 test-requires c κs = search needs
 
-enum-told : tie.Need-enum-told
-enum-told c = search needs
+decide-requires : tie.Need-decide-requires
+decide-requires c κs =
+    let test = c .before .before .before .before in
+    test .test .ensures
 
-without-table-requires : tie.Need-without-table-requires
-without-table-requires c κs = search needs
+enum-known-decision : tie.Need-enum-known-decision
+enum-known-decision c = search needs
 
-enum-known-found : tie.Need-enum-known-found
-enum-known-found c = search needs
+enum-known-decision-2 : tie.Need-enum-known-decision-2
+enum-known-decision-2 c = search needs
 
-narrow-requires : tie.Need-narrow-requires
-narrow-requires c κs = search needs
-
-narrow-requires-2 : tie.Need-narrow-requires-2
-narrow-requires-2 c κs = search needs
-
-with-table-requires : tie.Need-with-table-requires
-with-table-requires c κs =
-    let start = c .before .before .before in
-    let nonterminals = start .before in
-    let found = nonterminals .before .before .before .before .before in
-    let test = found .before .before in
-    own-table (test .test .ensures) (found .found .given .1) (nonterminals .narrow .ensures .1) (start .narrow2 .ensures .1)
-
-returns : tie.Need-returns
-returns c =
-    let told = c .before in
-    let test = told .before .before in
-    refuses-untabled _ (test .test .ensures .tested) (told .enum-told .given .1) (c .without-table .ensures)
+write-out-requires : tie.Need-write-out-requires
+write-out-requires c κs =
+    let decision = c .before .before .before .before .before .before .before in
+    let decide = decision .before .before in
+    let start = decide .before .before .before .before .before .before .before .before .before .before .before in
+    let a = start .args in
+    let lent : Lent = record { marks = a .marks .now; tokens = a .sentence .now; rules = a .derivation .now } in
+    decided-write (decide .decide .ensures lent refl refl refl) (decision .decision2 .given .1)
 
 same-length : tie.Need-same-length
 same-length c = search needs
+
+returns : tie.Need-returns
+returns c =
+    let decision = c .before in
+    let decide = decision .before .before in
+    decided-answer (decide .decide .ensures _ refl refl refl) (decision .decision .given .1)
 
 same-length-2 : tie.Need-same-length-2
 same-length-2 c = search needs
 
 same-length-3 : tie.Need-same-length-3
 same-length-3 c = search needs
+
+same-length-4 : tie.Need-same-length-4
+same-length-4 c = search needs
 
 returns-2 : tie.Need-returns-2
 returns-2 c = search needs
@@ -53,14 +55,13 @@ next-spec =
     tie.close
     (tie.spec
     test-requires
-    enum-told
-    without-table-requires
-    enum-known-found
-    narrow-requires
-    narrow-requires-2
-    with-table-requires
-    returns
+    decide-requires
+    enum-known-decision
+    enum-known-decision-2
+    write-out-requires
     same-length
+    returns
     same-length-2
     same-length-3
+    same-length-4
     returns-2)
