@@ -4,7 +4,7 @@ ghost use mathlib.Core.Path.{_≡_};
 ghost use Rattle.tables.specs.Promise.{Tables};
 ghost use Prim.Native.Nat.{_≤_};
 ghost use lib.ListN.{length};
-ghost use Rattle.entries.specs.Table.{lengthFor, entry};
+ghost use Rattle.entries.specs.Table.{lengthFor};
 ghost use Rattle.tables.specs.Rows.{Measured, Grown, Placed, Finished};
 use crate::TableAnswer;
 use crate::choices::choose_leads;

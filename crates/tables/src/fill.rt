@@ -4,7 +4,7 @@ ghost use mathlib.Core.List.{List, []};
 ghost use Prim.Native.Nat.{ℕ, _+_, _≤_, _<_};
 ghost use lib.ListN.{length};
 ghost use Rattle.answers.specs.Buffers.{over};
-ghost use Rattle.entries.specs.Table.{lengthFor, entry};
+ghost use Rattle.entries.specs.Table.{lengthFor};
 ghost use Rattle.entries.specs.Writing.{entriesOf, tableOf, enteredTo, totalledTo};
 ghost use Rattle.tables.specs.Filling.{contextRule, contextPlace, foundIn, Reach};
 use cells::narrow;
