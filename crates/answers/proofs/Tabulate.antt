@@ -5,7 +5,7 @@ use Prim.Native.Nat.{ℕ, zero, suc, _<_}
 use native.Mathlib.Omega.{arith}
 use native.Mathlib.Decide.{decLt}
 use mathlib.Core.Path.{_≡_, refl, ap}
-use lib.ListN.{length, getD}
+use lib.ListN.{length, getD, replicate}
 use Rattle.answers.specs.Lists.{tabulate}
 
 pub length-tabulate : (f : ℕ → ℕ) (n : ℕ) → length (tabulate f n) ≡ n
@@ -34,3 +34,9 @@ picked {X} x P n each = record { f = λ i. at i (decLt i n); is = λ i l. so i l
     so : (i : ℕ) → i < n → (d : Dec (i < n)) → P i (at i d)
     so i l (yes l′) = each i l′ .1
     so i l (no m) = absurd (m l)
+
+-- a list of 0 has 0 everywhere, past its end too
+pub zeros : (n i : ℕ) → _≡_ {A = ℕ} (getD (replicate n 0) i 0) 0
+zeros zero i = refl
+zeros (suc n) zero = refl
+zeros (suc n) (suc i) = zeros n i

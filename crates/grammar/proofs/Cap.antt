@@ -3,12 +3,12 @@
 -- nothing. Document 01's measure is capped at L + 1 for the limit L: the sums never wrap, and are above L exactly where the true
 -- ones are. Assumes nothing.
 use native.Mathlib.Omega.{arith}
-use mathlib.Core.Path.{_≡_, ap, _∙_}
+use mathlib.Core.Path.{_≡_}
 use Rattle.grammar.specs.Measure.{Cost}
 use Rattle.grammar.specs.Caps.{Cap, Limit}
 
 module _ {c : Cost} (κ : Cap c) where
-  open Cost c using (C, 𝟎, _⊕_, _≼_, assoc, unit, comm, mono)
+  open Cost c using (C, 𝟎, _⊕_, _≼_, unit, comm, mono)
   open Cap κ using (cap, cap-zero, cap-mono, cap-sum)
 
   infixl 60 _⊕_
@@ -16,16 +16,6 @@ module _ {c : Cost} (κ : Cap c) where
   -- what is capped stays so
   pub cap-cap : (x : C) → cap (cap x) ≡ cap x
   cap-cap x = cc (cap-sum 𝟎 x, cap-zero, unit x, unit (cap x))
-
-  -- a sum may be capped as it grows
-  pub cap-left : (x y : C) → cap (cap x ⊕ y) ≡ cap (x ⊕ y)
-  cap-left x y = cc (cap-sum (cap x) y, cap-sum x y, cap-cap x)
-
-  pub cap-right : (x y : C) → cap (x ⊕ cap y) ≡ cap (x ⊕ y)
-  cap-right x y = cc (cap-sum x (cap y), cap-sum x y, cap-cap y)
-
-  pub cap-step : (x y z : C) → cap (cap (x ⊕ y) ⊕ z) ≡ cap (x ⊕ (y ⊕ z))
-  cap-step x y z = cap-left (x ⊕ y) z ∙ ap cap (assoc x y z)
 
   -- the cap of a sum depends on the caps of its parts alone, and grows with them
   pub cap-same : {x y z u : C} → cap x ≡ cap y → cap z ≡ cap u → cap (x ⊕ z) ≡ cap (y ⊕ u)

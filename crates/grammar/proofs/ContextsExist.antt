@@ -6,12 +6,13 @@
 -- rule there made an offer. So m is the context of the nonterminal to which it is offered. With no offer left the settled ones
 -- are closed, and all that is reached is settled.
 -- Assumes nothing.
-use Prim.Native.Nat.{ℕ, _<_}
+use Prim.Native.Nat.{ℕ, zero, suc, _<_}
+use native.Mathlib.Omega.{arith}
 use native.Mathlib.Decide.{decLt, ℕ-discrete}
 use mathlib.Core.Path.{_≡_, refl, sym}
 use mathlib.Core.Logic.{_⊎_, inl, inr}
-use mathlib.Core.List.{List}
-use lib.ListN.{length}
+use mathlib.Core.List.{List, [], _∷_}
+use lib.ListN.{length, getD}
 use Rattle.grammar.specs.Words.{Grammar, RuleAt, R}
 use Rattle.grammar.specs.Tree.{Open, root, down, _∈_}
 use Rattle.grammar.specs.Measure.{Cost, gapCost, openCost}
@@ -30,6 +31,15 @@ use Rattle.grammar.proofs.ContextCertificate.{gap-holds, gap-above, lea
 -- a place that holds a symbol is below the length
 pub holds-below : (w : List ℕ) (i A : ℕ) → Holds w i A → i < length w
 holds-below w i A h = rule-below w i A h
+
+-- and what symbols hold at a place below their number is the symbol there, as a slice is read
+pub holds-there : (w : List ℕ) (i : ℕ) → i < length w → Holds w i (getD w i 0)
+holds-there [] i h = absurd (omega arith)
+holds-there (s ∷ w) zero h = refl
+holds-there (s ∷ w) (suc i) h = holds-there w i (omega arith)
+
+pub held-there : (w : List ℕ) (i A : ℕ) → Holds w i A → getD w i 0 ≡ A
+held-there w i A h = cc (holds-there w i (holds-below w i A h))
 
 module _ (c : Cost) (g : Grammar) (v : ℕ → c .C) (leasts : Leasts c g v) where
   open Cost c using (C, 𝟎, _⊕_, _≼_, once, le-refl, le-trans, mono)

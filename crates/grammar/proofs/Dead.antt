@@ -101,9 +101,6 @@ module _ {g : Grammar} (trees : AllTrees g) where
     at-past-child = λ s i A w t a h k. tt;
   }
 
-  pub some-forest : (w : List ℕ) → Forest g w
-  some-forest w = forest-of carries w (λ A m lt. (trees A lt, tt)) .0
-
   some-gap : (w : List ℕ) (i A : ℕ) → A < g .N → Holds w i A → Gap g w i A
   some-gap w i A lt h = gap-of carries carries-gap (λ B l. (trees B l, tt)) w i A lt h .0
 

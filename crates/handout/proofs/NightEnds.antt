@@ -6,7 +6,8 @@ use native.Mathlib.Omega.{arith}
 use mathlib.Core.Path.{_≡_, refl}
 use mathlib.Core.Logic.{_⊎_, inl, inr}
 use mathlib.Core.List.{List, [], _∷_}
-use lib.ListN.{length, getD, replicate, length-replicate}
+use lib.ListN.{length, replicate, length-replicate}
+use Rattle.answers.proofs.Tabulate.{zeros}
 use Rattle.grammar.specs.Words.{Grammar, R, layout, reads}
 use Rattle.grammar.specs.Tree.{sentence, derivation}
 use Rattle.grammar.specs.Refusals.{Lowest, Accepted}
@@ -23,11 +24,6 @@ use Rattle.handout.proofs.NextMet.{wanted-exists, next-met}
 use Rattle.handout.proofs.NextExact.{next-writes}
 use Rattle.handout.proofs.NightProper.{tree-of-limit}
 use Rattle.handout.proofs.NightCovers.{at-most-R}
-
-zeros : (n i : ℕ) → _≡_ {A = ℕ} (getD (replicate n 0) i 0) 0
-zeros zero i = refl
-zeros (suc n) zero = refl
-zeros (suc n) (suc i) = zeros n i
 
 module _ (words table : List ℕ) {g : Grammar} (e : layout words ≡ reads g) (a : Accepted limit g) (h : HasTable g table) where
   one-allowed : (before : Lent) → Enough g before →

@@ -9,11 +9,10 @@ use mathlib.Core.List.{List}
 use mathlib.Core.Path.{_≡_, refl, ap, sym, _∙_}
 use lib.ListN.{length, getD, set}
 use lib.Seq.{getD-set-same, getD-set-other}
-use Rattle.grammar.specs.Words.{Grammar, R}
+use Rattle.grammar.specs.Words.{Grammar}
 use Rattle.grammar.specs.Tree.{Open}
 use Rattle.grammar.specs.Terms.{measure}
 use Rattle.grammar.specs.Least.{ChosenOpen}
-use Rattle.grammar.proofs.RuleNumbers.{rule-number}
 use Rattle.entries.specs.Table.{ruleIn, placeIn}
 use Rattle.handout.specs.declared.lister.Lengths.{Lengths}
 use Rattle.handout.specs.Listing.{TableView, contextBy, SymbolsListed}
@@ -99,15 +98,9 @@ module _ {words places table : List ℕ} {start A : ℕ} {path : List ℕ} {a st
     pub way-short : steps < length path₀
     way-short = omega (arith, few-steps, ready .long)
 
-    pub way-low : a < ready .n
-    way-low = omega (arith, open-nonterminal (ready .known) (so-far .above), ready .known .view .nonterminals)
-
     module _ (d : ¬ (a ≡ start)) where
       above : Up (ready .known) (so-far .above) (ruleIn table a) (placeIn table a) (upper words places table a)
       above = up (ready .known) (so-far .above) (so-far .follows) (λ e. d (e ∙ sym (ready .starts-at))) _ _ _ refl refl refl
-
-      pub way-number : ruleIn table a < R (ready .g)
-      way-number = rule-number (above .rule)
 
       pub way-falls : contextBy table (upper words places table a) < contextBy table a
       way-falls = above .falls

@@ -16,7 +16,7 @@ use Rattle.layout.specs.declared.walk.RuleSpan.{RuleSpan}
 use Rattle.layout.specs.declared.walk.Step.{Step}
 use Rattle.layout.specs.declared.walk.Step.the-variants as step
 use Rattle.layout.specs.WalkOrder.{SpanOf, HandsOut, ended, handed, NextHandsOut}
-use Rattle.grammar.proofs.LayoutExact.{in-bounds, rule-below, rule-at}
+use Rattle.grammar.proofs.LayoutExact.{in-bounds, rule-below}
 use Rattle.layout.proofs.RulePlaces as places
 use Rattle.layout.proofs.WalkSteps.{step-past-256, step-cut, step-rule}
 
@@ -35,14 +35,6 @@ next-hands-out words {k} {v} (handed {rs = rs} {s = s} e span h) =
     let past : pastStep (stepAt (now words) v) v ≡ pastRule s = ap (λ (t : Step). pastStep t v) e in
     let later = subst⁻¹ (λ (x : WalkPlace). NextHandsOut (k + 1) (walkAt words x) rs) past (next-hands-out words h) in
     handed e span later
-
--- what a step from the walk before rule k found is that rule
-pub record RuleFound (g : Grammar) (k : ℕ) (s : RuleSpan) : Type 0 where
-  pub A : ℕ
-  pub w : List ℕ
-  pub rule : RuleAt g k A w
-  pub span : s ≡ spanOf g k A w
-  pub next : pastRule s ≡ walkBefore g (k + 1)
 
 -- what is left from k on begins with rule k
 next-left : (rs : List Rule) (k : ℕ) (ρ : Rule) (ss : List Rule) → drop k rs ≡ ρ ∷ ss →
@@ -91,31 +83,6 @@ module _ (ws : List ℕ) (g : Grammar) (e : layout ws ≡ reads g) where
       go : Dec (R g < 256) → stepAt ws (walkBefore g (R g)) ≡ step.End
       go (yes h) = step-cut ws (walkBefore g (R g)) h (omega (arith, places.places-end ws g e))
       go (no h) = step-past-256 ws (walkBefore g (R g)) (omega arith)
-
-  -- for one who goes by the step: what it found is rule k, and where it found none k is R
-  pub walk-found : (k : ℕ) {s : RuleSpan} → k ≤ R g → stepAt ws (walkBefore g k) ≡ step.Rule s → RuleFound g k s
-  walk-found k {s} l q = go (decLt k (R g))
-    where
-      go : Dec (k < R g) → RuleFound g k s
-      go (yes h) =
-          let r = rule-at (in-bounds ws e) k h in
-          let f = sym q ∙ walk-hands-rule (r .2) in
-          let same : s ≡ spanOf g k (r .0) (r .1) = cc in
-          record { A = r .0; w = r .1; rule = r .2; span = same; next = ap pastRule same }
-      go (no h) =
-          let end : k ≡ R g = omega arith in
-          let z : _≡_ {A = ℕ} 0 1 = cc walk-ends in
-          absurd (omega arith)
-
-  pub walk-done : (k : ℕ) → k ≤ R g → stepAt ws (walkBefore g k) ≡ step.End → k ≡ R g
-  walk-done k l q = go (decLt k (R g))
-    where
-      go : Dec (k < R g) → k ≡ R g
-      go (yes h) =
-          let r = rule-at (in-bounds ws e) k h in
-          let z : _≡_ {A = ℕ} 0 1 = cc (walk-hands-rule (r .2)) in
-          absurd (omega arith)
-      go (no h) = omega arith
 
   in-order : (rs : List Rule) (k : ℕ) → k ≤ R g → drop k (g .rules) ≡ rs → HandsOut ws k (walkBefore g k) rs
   in-order [] k l q =

@@ -1,11 +1,11 @@
 -- WHOLE TEXT: the pieces of successive calls, joined, are the text so far, and the text of the file once it is over; and it is over
 -- in time. Assumes nothing.
-use Prim.Native.Nat.{ℕ, zero, suc, _+_, _≤_}
+use Prim.Native.Nat.{ℕ, _+_, _≤_}
 use native.Mathlib.Omega.{arith}
 use mathlib.Core.Path.{_≡_, refl}
 use mathlib.Core.Bool.{true, false}
 use mathlib.Core.List.{List, [], _++_, append-nil}
-use lib.ListN.{length, take, getD, replicate}
+use lib.ListN.{length, take}
 use Rattle.lines.specs.Lines.{mostLine}
 use Rattle.suite.specs.declared.Piece.{Piece}
 use Rattle.suite.specs.Text.{Text}
@@ -86,9 +86,3 @@ piece-made {file} {words} {table} {marks} {piece} {calls} {so} before pieces = r
   before = before;
   pieces = pieces;
 }
-
--- the marks as the program begins: each is 0
-pub zeros : (n i : ℕ) → _≡_ {A = ℕ} (getD (replicate n 0) i 0) 0
-zeros zero i = refl
-zeros (suc n) zero = refl
-zeros (suc n) (suc i) = zeros n i

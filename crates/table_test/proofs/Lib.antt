@@ -3,7 +3,6 @@
 pub mod ASampleOfTests
 -- The pass over a lent table.
 pub mod Telling
-pub mod SymbolsHeld
 pub mod PlacesSummed
 pub mod RulesRead
 pub mod ChoicesRead

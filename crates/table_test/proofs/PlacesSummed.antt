@@ -15,7 +15,7 @@ use Rattle.grammar.proofs.Certificate.{symbol-nonterminal, symbol-terminal}
 use Rattle.grammar.proofs.ContextsExist.{holds-below}
 use Rattle.entries.specs.Table.{leastIn}
 use Rattle.table_test.specs.Passes.{PlacePasses, sizeIn, SizePasses, one-fails, all-pass}
-use Rattle.table_test.proofs.SymbolsHeld.{holds-there, held-there}
+use Rattle.grammar.proofs.ContextsExist.{holds-there, held-there}
 
 module _ (table : List ℕ) (n k t : ℕ) (w : List ℕ) where
   abbrev PassesAt : ℕ → Type 0

@@ -2,24 +2,19 @@
 -- there where that is a nonterminal and the rule's total is its least and its context. Past the last symbol of a rule no place
 -- fits, and the next rule's places follow. Assumes nothing.
 use mathlib.Core.Path.{_≡_, refl}
-use mathlib.Core.List.{List, [], _∷_}
-use Prim.Native.Nat.{ℕ, zero, suc, _+_, _-_, _*_, _≤_, _<_}
+use mathlib.Core.List.{List}
+use Prim.Native.Nat.{ℕ, _+_, _-_, _*_, _≤_, _<_}
 use native.Mathlib.Omega.{arith}
 use lib.ListN.{length, getD}
 use Rattle.grammar.specs.Words.{Grammar, RuleAt, InBounds}
 use Rattle.grammar.proofs.LayoutExact.{rule-short}
 use Rattle.grammar.specs.Certificates.{Holds}
-use Rattle.grammar.proofs.ContextsExist.{holds-below}
+use Rattle.grammar.proofs.ContextsExist.{holds-below, holds-there}
 use Rattle.grammar.proofs.RuleNumbers.{rule-right}
 use Rattle.figures.specs.Figures.{figure}
 use Rattle.tables.specs.Choices.{PlaceFits, LeadsOf}
 use Rattle.tables.specs.Choices.{NotedWhere, does, does-not}
 use Rattle.tables.proofs.FirstsNoted.{firsts-past, firsts-noted}
-
-holds-at : (w : List ℕ) (i : ℕ) → i < length w → Holds w i (getD w i 0)
-holds-at [] i h = absurd (omega arith)
-holds-at (s ∷ w) zero h = refl
-holds-at (s ∷ w) (suc i) h = holds-at w i (omega arith)
 
 module _ (g : Grammar) (ok : InBounds g) (vs us totals : List ℕ) {r B : ℕ} {w : List ℕ} (rule : RuleAt g r B w) where
   -- what fits the number of rule r and place i
@@ -55,7 +50,7 @@ module _ (g : Grammar) (ok : InBounds g) (vs us totals : List ℕ) {r B : ℕ} {
     place-chosen s h e z small room = go z
       where
         is-s : (A : ℕ) → Holds w i A → A ≡ s
-        is-s A there = let z = holds-at w i h in cc
+        is-s A there = let z = holds-there w i h in cc
 
         only : (A : ℕ) → PlaceFits g vs us totals A (32 * r + i) → A ≡ s
         only A f = is-s A (here A i (omega (arith, rule-short ok rule)) f .holds)
@@ -64,7 +59,7 @@ module _ (g : Grammar) (ok : InBounds g) (vs us totals : List ℕ) {r B : ℕ} {
         next = omega arith
 
         fits : figure vs s + figure us s ≡ getD totals r 0 → PlaceFits g vs us totals s (32 * r + i)
-        fits same = record { k = r; i = i; is = refl; B = B; w = w; rule = rule; holds = rw e (holds-at w i h); same = same }
+        fits same = record { k = r; i = i; is = refl; B = B; w = w; rule = rule; holds = rw e (holds-there w i h); same = same }
 
         unfit : ¬ ((s < g .N) × (figure vs s + figure us s ≡ getD totals r 0)) → (A p : ℕ) → A < g .N → i ≤ p → p < i + 1 →
             ¬ FitsHere A p

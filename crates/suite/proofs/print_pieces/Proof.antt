@@ -10,7 +10,8 @@ use borrow.Author.Tests.{not-true}
 use Rattle.lines.specs.Lines.{mostLine}
 use Rattle.suite.specs.Pieces.{Pieces, first, next}
 use Rattle.suite.proofs.MoreLines.{count-few, turns, turns-fall}
-use Rattle.suite.proofs.WholeText.{pieces-so-far, piece-made, zeros}
+use Rattle.answers.proofs.Tabulate.{zeros}
+use Rattle.suite.proofs.WholeText.{pieces-so-far, piece-made}
 use Rattle.suite.proofs.print_pieces.Statement.{statement}
 use Rattle.suite.proofs.print_pieces.Tie as tie
 

@@ -4,7 +4,7 @@ use mathlib.Core.Path.{sym, _∙_}
 use Rattle.grammar.specs.Certificates.{Holds}
 use Rattle.grammar.proofs.ContextsExist.{holds-below}
 use Rattle.table_test.proofs.Telling.{says-eq}
-use Rattle.table_test.proofs.SymbolsHeld.{holds-there, held-there}
+use Rattle.grammar.proofs.ContextsExist.{holds-there, held-there}
 use borrow.Author.Needs.{needs}
 use Rattle.table_test.proofs.passes.holds.Statement.{statement}
 use Rattle.table_test.proofs.passes.holds.Tie as tie
