@@ -11,9 +11,9 @@ pub data Gate {X Out : Type 0} (Stop : X → Type 0) (Go : Type 0) (answer : X �
 abbrev pub Settles : {Out : Type 0} → (Out → Type 0) → Type 0
 Settles {Out} P = (o o' : Out) → P o → P o' → o ≡ o'
 
-pub gate-settles : {X Out : Type 0} {Stop : X → Type 0} {Go : Type 0} (answer : X → Out) {Rest : Out → Type 0} →
+pub gate_settles : {X Out : Type 0} {Stop : X → Type 0} {Go : Type 0} (answer : X → Out) {Rest : Out → Type 0} →
     ((x y : X) → Stop x → Stop y → x ≡ y) → ((x : X) → Stop x → Go → ⊥) → Settles Rest → Settles (Gate Stop Go answer Rest)
-gate-settles answer one apart rest _ _ (stop {x = x} a) (stop {x = y} b) = ap answer (one x y a b)
-gate-settles answer one apart rest _ _ (stop {x = x} a) (go b c) = absurd (apart x a b)
-gate-settles answer one apart rest _ _ (go a b) (stop {x = y} c) = absurd (apart y c a)
-gate-settles answer one apart rest o o' (go a b) (go c d) = rest o o' b d
+gate_settles answer one apart rest _ _ (stop {x = x} a) (stop {x = y} b) = ap answer (one x y a b)
+gate_settles answer one apart rest _ _ (stop {x = x} a) (go b c) = absurd (apart x a b)
+gate_settles answer one apart rest _ _ (go a b) (stop {x = y} c) = absurd (apart y c a)
+gate_settles answer one apart rest o o' (go a b) (go c d) = rest o o' b d

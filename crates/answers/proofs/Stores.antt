@@ -8,8 +8,8 @@ use lib.ListN.{length, set}
 use lib.Seq.{sets}
 
 -- one run after another is one run
-pub sets-append : (us vs l : List ℕ) (i : ℕ) → sets l i (us ++ vs) ≡ sets (sets l i us) (i + length us) vs
-sets-append [] vs l i = rw (add-zero i)
-sets-append (u ∷ us) vs l i =
+pub sets_append : (us vs l : List ℕ) (i : ℕ) → sets l i (us ++ vs) ≡ sets (sets l i us) (i + length us) vs
+sets_append [] vs l i = rw (add-zero i)
+sets_append (u ∷ us) vs l i =
     let e : suc i + length us ≡ i + suc (length us) = omega arith in
-    rw (← e) (sets-append us vs (set l i u) (suc i))
+    rw (← e) (sets_append us vs (set l i u) (suc i))

@@ -5,9 +5,9 @@ use Rattle.std.specs.Prelude.{ℕ}
 
 pub data GrammarRefusal : Type 0 where
   -- "words break the grammar layout"
-  broken-layout : (place : ℕ) → GrammarRefusal
+  broken_layout : (place : ℕ) → GrammarRefusal
   -- "a nonterminal has no complete tree"
-  no-tree : (A : ℕ) → GrammarRefusal
+  no_tree : (A : ℕ) → GrammarRefusal
   -- "a nonterminal occurs in no form derived from the start"
   unreached : (A : ℕ) → GrammarRefusal
   -- "some Total is above 4,096"
@@ -15,14 +15,14 @@ pub data GrammarRefusal : Type 0 where
 
 -- the column "No."
 abbrev pub number : GrammarRefusal → ℕ
-number (broken-layout p) = 4
-number (no-tree A) = 5
+number (broken_layout p) = 4
+number (no_tree A) = 5
 number (unreached A) = 6
 number (oversize r) = 7
 
 -- the column "Place"
 abbrev pub place : GrammarRefusal → ℕ
-place (broken-layout p) = p
-place (no-tree A) = A
+place (broken_layout p) = p
+place (no_tree A) = A
 place (unreached A) = A
 place (oversize r) = r

@@ -16,7 +16,7 @@ use Rattle.handout.specs.Next.{Lent, NextPromise}
 use Rattle.replay.specs.declared.ReplayAnswer.{ReplayAnswer}
 use Rattle.replay.specs.declared.ReplayAnswer.TheVariants as replay
 use Rattle.replay.specs.Replay.{Replay}
-use Rattle.calls.specs.Numbers.{done, next, finished, refused, ofFile, ofTable, ofNext, ofReplay}
+use Rattle.calls.specs.Numbers.{done, next, finished, refused, of_file, of_table, of_next, of_replay}
 use Rattle.calls.specs.Called.{Called, UnpackCalled, PackCalled, TablesCalled, NextCalled, ReplayCalled}
 
 -- kinds differ
@@ -32,57 +32,57 @@ next-refused r t k n p e = let z : ◌≡◌ {A = ℕ} 1 3 = cc in omega (arith,
 finished-refused : (number place : ℕ) → finished ≡ refused number place → ⊥
 finished-refused n p e = let z : ◌≡◌ {A = ℕ} 2 3 = cc in omega (arith, z)
 
-file-numbers : (a b : FileAnswer) → ofFile a ≡ ofFile b → a ≡ b
-file-numbers (file.Done a) (file.Done b) e = cc
-file-numbers (file.Done a) (file.Refused n p) e = absurd (done_refused a n p e)
-file-numbers (file.Refused n p) (file.Done b) e = absurd (done_refused b n p (sym e))
-file-numbers (file.Refused n p) (file.Refused m q) e = cc
+file_numbers : (a b : FileAnswer) → of_file a ≡ of_file b → a ≡ b
+file_numbers (file.Done a) (file.Done b) e = cc
+file_numbers (file.Done a) (file.Refused n p) e = absurd (done_refused a n p e)
+file_numbers (file.Refused n p) (file.Done b) e = absurd (done_refused b n p (sym e))
+file_numbers (file.Refused n p) (file.Refused m q) e = cc
 
-table-numbers : (a b : TableAnswer) → ofTable a ≡ ofTable b → a ≡ b
-table-numbers (table.Done a) (table.Done b) e = cc
-table-numbers (table.Done a) (table.Refused n p) e = absurd (done_refused a n p e)
-table-numbers (table.Refused n p) (table.Done b) e = absurd (done_refused b n p (sym e))
-table-numbers (table.Refused n p) (table.Refused m q) e = cc
+table_numbers : (a b : TableAnswer) → of_table a ≡ of_table b → a ≡ b
+table_numbers (table.Done a) (table.Done b) e = cc
+table_numbers (table.Done a) (table.Refused n p) e = absurd (done_refused a n p e)
+table_numbers (table.Refused n p) (table.Done b) e = absurd (done_refused b n p (sym e))
+table_numbers (table.Refused n p) (table.Refused m q) e = cc
 
-replay-numbers : (a b : ReplayAnswer) → ofReplay a ≡ ofReplay b → a ≡ b
-replay-numbers (replay.Done a) (replay.Done b) e = cc
-replay-numbers (replay.Done a) (replay.Refused n p) e = absurd (done_refused a n p e)
-replay-numbers (replay.Refused n p) (replay.Done b) e = absurd (done_refused b n p (sym e))
-replay-numbers (replay.Refused n p) (replay.Refused m q) e = cc
+replay_numbers : (a b : ReplayAnswer) → of_replay a ≡ of_replay b → a ≡ b
+replay_numbers (replay.Done a) (replay.Done b) e = cc
+replay_numbers (replay.Done a) (replay.Refused n p) e = absurd (done_refused a n p e)
+replay_numbers (replay.Refused n p) (replay.Done b) e = absurd (done_refused b n p (sym e))
+replay_numbers (replay.Refused n p) (replay.Refused m q) e = cc
 
-next-numbers : (a b : NextAnswer) → ofNext a ≡ ofNext b → a ≡ b
-next-numbers (sentence.Next r t k) (sentence.Next q u l) e = cc
-next-numbers (sentence.Next r t k) sentence.Finished e = absurd (next-finished r t k e)
-next-numbers (sentence.Next r t k) (sentence.Refused n p) e = absurd (next-refused r t k n p e)
-next-numbers sentence.Finished (sentence.Next r t k) e = absurd (next-finished r t k (sym e))
-next-numbers sentence.Finished sentence.Finished e = cc
-next-numbers sentence.Finished (sentence.Refused n p) e = absurd (finished-refused n p e)
-next-numbers (sentence.Refused n p) (sentence.Next r t k) e = absurd (next-refused r t k n p (sym e))
-next-numbers (sentence.Refused n p) sentence.Finished e = absurd (finished-refused n p (sym e))
-next-numbers (sentence.Refused n p) (sentence.Refused m q) e = cc
+next_numbers : (a b : NextAnswer) → of_next a ≡ of_next b → a ≡ b
+next_numbers (sentence.Next r t k) (sentence.Next q u l) e = cc
+next_numbers (sentence.Next r t k) sentence.Finished e = absurd (next-finished r t k e)
+next_numbers (sentence.Next r t k) (sentence.Refused n p) e = absurd (next-refused r t k n p e)
+next_numbers sentence.Finished (sentence.Next r t k) e = absurd (next-finished r t k (sym e))
+next_numbers sentence.Finished sentence.Finished e = cc
+next_numbers sentence.Finished (sentence.Refused n p) e = absurd (finished-refused n p e)
+next_numbers (sentence.Refused n p) (sentence.Next r t k) e = absurd (next-refused r t k n p (sym e))
+next_numbers (sentence.Refused n p) sentence.Finished e = absurd (finished-refused n p (sym e))
+next_numbers (sentence.Refused n p) (sentence.Refused m q) e = cc
 
-called-told : {Answer Buffers : Type 0} {Promise : Answer → Buffers → Type 0} {numbersOf : Answer → List ℕ} →
+called_told : {Answer Buffers : Type 0} {Promise : Answer → Buffers → Type 0} {numbersOf : Answer → List ℕ} →
     ((a b : Answer) → numbersOf a ≡ numbersOf b → a ≡ b) →
     {a : Answer} {after : Buffers} → Called Promise numbersOf (numbersOf a) after → Promise a after
-called-told {Promise = Promise} told {a} {after} c =
+called_told {Promise = Promise} told {a} {after} c =
     subst (λ r. Promise r after) (sym (told a c.answer c.written)) c.promise
 
-pub unpack-told : {file words after : List ℕ} {r : FileAnswer} → UnpackCalled file words (ofFile r) after →
+pub unpack_told : {file words after : List ℕ} {r : FileAnswer} → UnpackCalled file words (of_file r) after →
     Unpacked file words r after
-unpack-told = called-told file-numbers
+unpack_told = called_told file_numbers
 
-pub pack-told : {words file after : List ℕ} {r : FileAnswer} → PackCalled words file (ofFile r) after →
+pub pack_told : {words file after : List ℕ} {r : FileAnswer} → PackCalled words file (of_file r) after →
     Packed words file r after
-pack-told = called-told file-numbers
+pack_told = called_told file_numbers
 
-pub tables-told : {words table after : List ℕ} {r : TableAnswer} → TablesCalled words table (ofTable r) after →
+pub tables_told : {words table after : List ℕ} {r : TableAnswer} → TablesCalled words table (of_table r) after →
     Tables words table r after
-tables-told = called-told table-numbers
+tables_told = called_told table_numbers
 
-pub next-told : {words table : List ℕ} {before after : Lent} {r : NextAnswer} →
-    NextCalled words table before (ofNext r) after → NextPromise words table before r after
-next-told = called-told next-numbers
+pub next_told : {words table : List ℕ} {before after : Lent} {r : NextAnswer} →
+    NextCalled words table before (of_next r) after → NextPromise words table before r after
+next_told = called_told next_numbers
 
-pub replay-told : {words list sentence after : List ℕ} {r : ReplayAnswer} →
-    ReplayCalled words list sentence (ofReplay r) after → Replay words list sentence r after
-replay-told = called-told replay-numbers
+pub replay_told : {words list sentence after : List ℕ} {r : ReplayAnswer} →
+    ReplayCalled words list sentence (of_replay r) after → Replay words list sentence r after
+replay_told = called_told replay_numbers

@@ -11,49 +11,49 @@ use Rattle.handout.specs.declared.NextAnswer.{NextAnswer}
 use Rattle.handout.specs.Next.{Lent, NextPromise}
 use Rattle.replay.specs.declared.ReplayAnswer.{ReplayAnswer}
 use Rattle.replay.specs.Replay.{Replay}
-use Rattle.calls.specs.Numbers.{ofFile, ofTable, ofNext, ofReplay}
+use Rattle.calls.specs.Numbers.{of_file, of_table, of_next, of_replay}
 use Rattle.calls.specs.Called.{UnpackCalled, PackCalled, TablesCalled, NextCalled, ReplayCalled}
 use Rattle.calls.proofs.CallsSettle as Settle
 use Rattle.calls.proofs.AnswersTold as Told
 
 -- SETTLED. Any two outcomes that a promise allows for the same input coincide: the four numbers, and every lent buffer.
-pub vanchiluk-unpack-settles : {file words m n a b : List ℕ} →
+pub vanchiluk_unpack_settles : {file words m n a b : List ℕ} →
     UnpackCalled file words m a → UnpackCalled file words n b → (m ≡ n) × (a ≡ b)
-vanchiluk-unpack-settles = Settle.vanchiluk-unpack-settles
+vanchiluk_unpack_settles = Settle.vanchiluk_unpack_settles
 
-pub vanchiluk-pack-settles : {words file m n a b : List ℕ} →
+pub vanchiluk_pack_settles : {words file m n a b : List ℕ} →
     PackCalled words file m a → PackCalled words file n b → (m ≡ n) × (a ≡ b)
-vanchiluk-pack-settles = Settle.vanchiluk-pack-settles
+vanchiluk_pack_settles = Settle.vanchiluk_pack_settles
 
-pub vanchiluk-tables-settles : {words table m n a b : List ℕ} →
+pub vanchiluk_tables_settles : {words table m n a b : List ℕ} →
     TablesCalled words table m a → TablesCalled words table n b → (m ≡ n) × (a ≡ b)
-vanchiluk-tables-settles = Settle.vanchiluk-tables-settles
+vanchiluk_tables_settles = Settle.vanchiluk_tables_settles
 
-pub vanchiluk-next-settles : {words table m n : List ℕ} {before a b : Lent} →
+pub vanchiluk_next_settles : {words table m n : List ℕ} {before a b : Lent} →
     NextCalled words table before m a → NextCalled words table before n b → (m ≡ n) × (a ≡ b)
-vanchiluk-next-settles = Settle.vanchiluk-next-settles
+vanchiluk_next_settles = Settle.vanchiluk_next_settles
 
-pub vanchiluk-replay-settles : {words list sentence m n a b : List ℕ} →
+pub vanchiluk_replay_settles : {words list sentence m n a b : List ℕ} →
     ReplayCalled words list sentence m a → ReplayCalled words list sentence n b → (m ≡ n) × (a ≡ b)
-vanchiluk-replay-settles = Settle.vanchiluk-replay-settles
+vanchiluk_replay_settles = Settle.vanchiluk_replay_settles
 
 -- TOLD. The four numbers tell the answer: where they are an answer's, the layer's own promise holds of it.
-pub unpack-told : {file words after : List ℕ} {r : FileAnswer} → UnpackCalled file words (ofFile r) after →
+pub unpack_told : {file words after : List ℕ} {r : FileAnswer} → UnpackCalled file words (of_file r) after →
     Unpacked file words r after
-unpack-told = Told.unpack-told
+unpack_told = Told.unpack_told
 
-pub pack-told : {words file after : List ℕ} {r : FileAnswer} → PackCalled words file (ofFile r) after →
+pub pack_told : {words file after : List ℕ} {r : FileAnswer} → PackCalled words file (of_file r) after →
     Packed words file r after
-pack-told = Told.pack-told
+pack_told = Told.pack_told
 
-pub tables-told : {words table after : List ℕ} {r : TableAnswer} → TablesCalled words table (ofTable r) after →
+pub tables_told : {words table after : List ℕ} {r : TableAnswer} → TablesCalled words table (of_table r) after →
     Tables words table r after
-tables-told = Told.tables-told
+tables_told = Told.tables_told
 
-pub next-told : {words table : List ℕ} {before after : Lent} {r : NextAnswer} →
-    NextCalled words table before (ofNext r) after → NextPromise words table before r after
-next-told = Told.next-told
+pub next_told : {words table : List ℕ} {before after : Lent} {r : NextAnswer} →
+    NextCalled words table before (of_next r) after → NextPromise words table before r after
+next_told = Told.next_told
 
-pub replay-told : {words list sentence after : List ℕ} {r : ReplayAnswer} →
-    ReplayCalled words list sentence (ofReplay r) after → Replay words list sentence r after
-replay-told = Told.replay-told
+pub replay_told : {words list sentence after : List ℕ} {r : ReplayAnswer} →
+    ReplayCalled words list sentence (of_replay r) after → Replay words list sentence r after
+replay_told = Told.replay_told

@@ -9,7 +9,7 @@ use Rattle.handout.specs.declared.NextAnswer.{NextAnswer}
 use Rattle.handout.specs.Next.{Lent, NextPromise}
 use Rattle.replay.specs.declared.ReplayAnswer.{ReplayAnswer}
 use Rattle.replay.specs.Replay.{Replay}
-use Rattle.calls.specs.Numbers.{ofFile, ofTable, ofNext, ofReplay}
+use Rattle.calls.specs.Numbers.{of_file, of_table, of_next, of_replay}
 
 -- Of a family's answers, what its promise allows and how they are written as numbers: four numbers and buffers afterwards.
 pub record Called {Answer Buffers : Type 0} (Promise : Answer → Buffers → Type 0) (numbersOf : Answer → List ℕ)
@@ -19,16 +19,16 @@ pub record Called {Answer Buffers : Type 0} (Promise : Answer → Buffers → Ty
   pub written : numbers ≡ numbersOf answer
 
 abbrev pub UnpackCalled : List ℕ → List ℕ → List ℕ → List ℕ → Type 0
-UnpackCalled file words = Called (Unpacked file words) ofFile
+UnpackCalled file words = Called (Unpacked file words) of_file
 
 abbrev pub PackCalled : List ℕ → List ℕ → List ℕ → List ℕ → Type 0
-PackCalled words file = Called (Packed words file) ofFile
+PackCalled words file = Called (Packed words file) of_file
 
 abbrev pub TablesCalled : List ℕ → List ℕ → List ℕ → List ℕ → Type 0
-TablesCalled words table = Called (Tables words table) ofTable
+TablesCalled words table = Called (Tables words table) of_table
 
 abbrev pub NextCalled : List ℕ → List ℕ → Lent → List ℕ → Lent → Type 0
-NextCalled words table before = Called (NextPromise words table before) ofNext
+NextCalled words table before = Called (NextPromise words table before) of_next
 
 abbrev pub ReplayCalled : List ℕ → List ℕ → List ℕ → List ℕ → List ℕ → Type 0
-ReplayCalled words list sentence = Called (Replay words list sentence) ofReplay
+ReplayCalled words list sentence = Called (Replay words list sentence) of_replay

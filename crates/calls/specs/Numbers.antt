@@ -33,19 +33,19 @@ abbrev pub refused : ℕ → ℕ → List ℕ
 refused number place = 3 ∷ number ∷ place ∷ 0 ∷ []
 
 -- unpack and pack
-abbrev pub ofFile : FileAnswer → List ℕ
-ofFile (file.Done length) = done length
-ofFile (file.Refused number place) = refused number place
+abbrev pub of_file : FileAnswer → List ℕ
+of_file (file.Done length) = done length
+of_file (file.Refused number place) = refused number place
 
-abbrev pub ofTable : TableAnswer → List ℕ
-ofTable (table.Done length) = done length
-ofTable (table.Refused number place) = refused number place
+abbrev pub of_table : TableAnswer → List ℕ
+of_table (table.Done length) = done length
+of_table (table.Refused number place) = refused number place
 
-abbrev pub ofNext : NextAnswer → List ℕ
-ofNext (sentence.Next target tokens rules) = next target tokens rules
-ofNext sentence.Finished = finished
-ofNext (sentence.Refused number place) = refused number place
+abbrev pub of_next : NextAnswer → List ℕ
+of_next (sentence.Next target tokens rules) = next target tokens rules
+of_next sentence.Finished = finished
+of_next (sentence.Refused number place) = refused number place
 
-abbrev pub ofReplay : ReplayAnswer → List ℕ
-ofReplay (replay.Done length) = done length
-ofReplay (replay.Refused number place) = refused number place
+abbrev pub of_replay : ReplayAnswer → List ℕ
+of_replay (replay.Done length) = done length
+of_replay (replay.Refused number place) = refused number place

@@ -1,6 +1,6 @@
 // The four numbers of an answer: a function for each kind of answer, and one for each family. What they are is specs/Numbers.
 ghost use Rattle.std.specs.Prelude.{◌≡◌};
-ghost use Rattle.calls.specs.Numbers.{done, next, finished, refused, ofFile, ofTable, ofNext, ofReplay};
+ghost use Rattle.calls.specs.Numbers.{done, next, finished, refused, of_file, of_table, of_next, of_replay};
 
 use handout::NextAnswer;
 use packed::FileAnswer;
@@ -41,7 +41,7 @@ fn refused(number: u16, place: usize) -> [u64; 4]
 }
 
 pub fn of_file(answer: FileAnswer) -> [u64; 4]
-    ensures { result ≡ ofFile answer }
+    ensures { result ≡ of_file answer }
 {
     match answer {
         FileAnswer::Done(length) => done(length),
@@ -50,7 +50,7 @@ pub fn of_file(answer: FileAnswer) -> [u64; 4]
 }
 
 pub fn of_table(answer: TableAnswer) -> [u64; 4]
-    ensures { result ≡ ofTable answer }
+    ensures { result ≡ of_table answer }
 {
     match answer {
         TableAnswer::Done(length) => done(length),
@@ -59,7 +59,7 @@ pub fn of_table(answer: TableAnswer) -> [u64; 4]
 }
 
 pub fn of_next(answer: NextAnswer) -> [u64; 4]
-    ensures { result ≡ ofNext answer }
+    ensures { result ≡ of_next answer }
 {
     match answer {
         NextAnswer::Next {
@@ -73,7 +73,7 @@ pub fn of_next(answer: NextAnswer) -> [u64; 4]
 }
 
 pub fn of_replay(answer: ReplayAnswer) -> [u64; 4]
-    ensures { result ≡ ofReplay answer }
+    ensures { result ≡ of_replay answer }
 {
     match answer {
         ReplayAnswer::Done(length) => done(length),

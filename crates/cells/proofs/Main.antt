@@ -6,15 +6,15 @@ use lib.ListN.{get_or, set}
 use Rattle.cells.proofs.CellsSettle as CellsSettle
 
 -- SETTLED. Any two outcomes that a promise allows for the same input coincide.
-pub read-settles : (part : List ℕ) (i : ℕ) {r s : ℕ} → r ≡ get_or part i 0 → s ≡ get_or part i 0 → r ≡ s
-read-settles = CellsSettle.read-settles
+pub read_settles : (part : List ℕ) (i : ℕ) {r s : ℕ} → r ≡ get_or part i 0 → s ≡ get_or part i 0 → r ≡ s
+read_settles = CellsSettle.read_settles
 
-pub put-settles : (before : List ℕ) (i v : ℕ) {after after' : List ℕ} →
+pub put_settles : (before : List ℕ) (i v : ℕ) {after after' : List ℕ} →
     after ≡ set before i v → after' ≡ set before i v → after ≡ after'
-put-settles = CellsSettle.put-settles
+put_settles = CellsSettle.put_settles
 
-pub narrow-settles : (x : ℕ) {r s : ℕ} → (r ≡ x % 65536) × (x ≤ 65535 → r ≡ x) → (s ≡ x % 65536) × (x ≤ 65535 → s ≡ x) → r ≡ s
-narrow-settles = CellsSettle.narrow-settles
+pub narrow_settles : (x : ℕ) {r s : ℕ} → (r ≡ x % 65536) × (x ≤ 65535 → r ≡ x) → (s ≡ x % 65536) × (x ≤ 65535 → s ≡ x) → r ≡ s
+narrow_settles = CellsSettle.narrow_settles
 
-pub wide-settles : (x : ℕ) {r s : ℕ} → r ≡ x → s ≡ x → r ≡ s
-wide-settles = CellsSettle.wide-settles
+pub wide_settles : (x : ℕ) {r s : ℕ} → r ≡ x → s ≡ x → r ≡ s
+wide_settles = CellsSettle.wide_settles

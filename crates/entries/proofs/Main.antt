@@ -10,10 +10,10 @@ use Rattle.grammar.specs.Words.{Grammar, R, InBounds}
 use Rattle.grammar.specs.Terms.{measure, limit}
 use Rattle.grammar.specs.Refusals.{AllTrees, AllReached, AllFit, Accepted}
 use Rattle.grammar.specs.Certificates.{Leasts, Contexts}
-use Rattle.grammar.specs.Samples.{D, empty-rule, D-table, loop}
-use Rattle.entries.specs.Table.{tableLength, entry, leastIn, chosenIn, contextIn, ruleIn, place_in, totalIn, mostTable, IsTable, HasTable}
+use Rattle.grammar.specs.Samples.{D, empty_rule, D_table, loop}
+use Rattle.entries.specs.Table.{table_length, entry, least_in, chosen_in, context_in, rule_in, place_in, total_in, most_table, IsTable, HasTable}
 use Rattle.entries.specs.TableCertificates.{Passes, passes?, WorkedOut}
-use Rattle.entries.specs.Writing.{withEntries, withTotal}
+use Rattle.entries.specs.Writing.{with_entries, with_total}
 use Rattle.entries.specs.declared.Entries.{Entries}
 use Rattle.entries.proofs.ASampleOfTables as ASampleOfTables
 use Rattle.entries.proofs.TableSamples as TableSamples
@@ -27,89 +27,89 @@ use Rattle.entries.proofs.TableWorkedOut as TableWorkedOut
 use Rattle.entries.proofs.EntriesSettle as EntriesSettle
 
 -- THE TABLE. A grammar has one at most, and one where all nonterminals have trees and are reached.
-pub table-unique : {g : Grammar} {ws vs : List ℕ} → IsTable g ws → IsTable g vs → ws ≡ vs
-table-unique = TableIsOne.table-unique
+pub table_unique : {g : Grammar} {ws vs : List ℕ} → IsTable g ws → IsTable g vs → ws ≡ vs
+table_unique = TableIsOne.table_unique
 
-pub table-exists : (g : Grammar) → InBounds g → AllTrees g → AllReached g → (ws : List ℕ) × IsTable g ws
-table-exists = TableExists.table-exists
+pub table_exists : (g : Grammar) → InBounds g → AllTrees g → AllReached g → (ws : List ℕ) × IsTable g ws
+table_exists = TableExists.table_exists
 
 -- Words are the table exactly where they pass the tests of `Passes`, which speak of the words and the rules alone. What passes
 -- when computed passes.
-pub table-tests : (g : Grammar) → InBounds g → (ws : List ℕ) → Passes g ws ↔ IsTable g ws
-table-tests = TableTests.table-tests
+pub table_tests : (g : Grammar) → InBounds g → (ws : List ℕ) → Passes g ws ↔ IsTable g ws
+table_tests = TableTests.table_tests
 
-pub passes?-sound : (g : Grammar) (ws : List ℕ) → So (passes? g ws) → Passes g ws
-passes?-sound = TableComputed.passes?-sound
+pub passes?_sound : (g : Grammar) (ws : List ℕ) → So (passes? g ws) → Passes g ws
+passes?_sound = TableComputed.passes?_sound
 
 -- So words that pass when computed are the table.
-pub computed-table : {g : Grammar} → InBounds g → (ws : List ℕ) → So (passes? g ws) → IsTable g ws
-computed-table = TableComputed.computed-table
+pub computed_table : {g : Grammar} → InBounds g → (ws : List ℕ) → So (passes? g ws) → IsTable g ws
+computed_table = TableComputed.computed_table
 
 -- Whether a lent table is the grammar's is decided.
 pub tabled? : (table : List ℕ) (g : Grammar) → InBounds g → Accepted limit g → Dec (HasTable g table)
 tabled? = TableExists.tabled?
 
 -- What is read of a lent table at the places of an entry or a total is what its first 5N + R words have there.
-pub least-front : (g : Grammar) (ws : List ℕ) (A : ℕ) → A < g.N → leastIn (take (tableLength g) ws) A ≡ leastIn ws A
-least-front = TablePlaces.least-front
+pub least_front : (g : Grammar) (ws : List ℕ) (A : ℕ) → A < g.N → least_in (take (table_length g) ws) A ≡ least_in ws A
+least_front = TablePlaces.least_front
 
-pub chosen-front : (g : Grammar) (ws : List ℕ) (A : ℕ) → A < g.N → chosenIn (take (tableLength g) ws) A ≡ chosenIn ws A
-chosen-front = TablePlaces.chosen-front
+pub chosen_front : (g : Grammar) (ws : List ℕ) (A : ℕ) → A < g.N → chosen_in (take (table_length g) ws) A ≡ chosen_in ws A
+chosen_front = TablePlaces.chosen_front
 
-pub context-front : (g : Grammar) (ws : List ℕ) (A : ℕ) → A < g.N → contextIn (take (tableLength g) ws) A ≡ contextIn ws A
-context-front = TablePlaces.context-front
+pub context_front : (g : Grammar) (ws : List ℕ) (A : ℕ) → A < g.N → context_in (take (table_length g) ws) A ≡ context_in ws A
+context_front = TablePlaces.context_front
 
-pub rule-front : (g : Grammar) (ws : List ℕ) (A : ℕ) → A < g.N → ruleIn (take (tableLength g) ws) A ≡ ruleIn ws A
-rule-front = TablePlaces.rule-front
+pub rule_front : (g : Grammar) (ws : List ℕ) (A : ℕ) → A < g.N → rule_in (take (table_length g) ws) A ≡ rule_in ws A
+rule_front = TablePlaces.rule_front
 
-pub place-front : (g : Grammar) (ws : List ℕ) (A : ℕ) → A < g.N → place_in (take (tableLength g) ws) A ≡ place_in ws A
-place-front = TablePlaces.place-front
+pub place_front : (g : Grammar) (ws : List ℕ) (A : ℕ) → A < g.N → place_in (take (table_length g) ws) A ≡ place_in ws A
+place_front = TablePlaces.place_front
 
-pub total-front : (g : Grammar) (ws : List ℕ) (r : ℕ) → r < R g → totalIn g.N (take (tableLength g) ws) r ≡ totalIn g.N ws r
-total-front = TablePlaces.total-front
+pub total_front : (g : Grammar) (ws : List ℕ) (r : ℕ) → r < R g → total_in g.N (take (table_length g) ws) r ≡ total_in g.N ws r
+total_front = TablePlaces.total_front
 
 -- It has 896 words at most.
-pub table-few : (g : Grammar) → InBounds g → tableLength g ≤ mostTable
-table-few = TablePlaces.table-few
+pub table_few : (g : Grammar) → InBounds g → table_length g ≤ most_table
+table_few = TablePlaces.table_few
 
 -- Words worked out from leasts and contexts, each choice the first that comes to its figure, are the table.
-pub worked-out : (g : Grammar) (v u : ℕ → ℕ) → InBounds g → Leasts measure g v → Contexts measure g v u →
+pub worked_out : (g : Grammar) (v u : ℕ → ℕ) → InBounds g → Leasts measure g v → Contexts measure g v u →
     {ws : List ℕ} → WorkedOut g v u ws → IsTable g ws
-worked-out = TableWorkedOut.worked-out
+worked_out = TableWorkedOut.worked_out
 
 -- If no Total is above 4,096, its words are 16-bit words; a least and a context of one nonterminal are together 4,096 at most.
-pub table-words-fit : {g : Grammar} {ws : List ℕ} → InBounds g → AllFit limit g → IsTable g ws → (i : ℕ) → get_or ws i 0 < 65536
-table-words-fit = TableFits.table-words-fit
+pub table_words_fit : {g : Grammar} {ws : List ℕ} → InBounds g → AllFit limit g → IsTable g ws → (i : ℕ) → get_or ws i 0 < 65536
+table_words_fit = TableFits.table_words_fit
 
-pub sizes-fit : {g : Grammar} {ws : List ℕ} → InBounds g → AllFit limit g → IsTable g ws →
-    (A : ℕ) → A < g.N → leastIn ws A + contextIn ws A ≤ limit
-sizes-fit = TableFits.sizes-fit
+pub sizes_fit : {g : Grammar} {ws : List ℕ} → InBounds g → AllFit limit g → IsTable g ws →
+    (A : ℕ) → A < g.N → least_in ws A + context_in ws A ≤ limit
+sizes_fit = TableFits.sizes_fit
 
-pub total-fits : {g : Grammar} {ws : List ℕ} → InBounds g → AllFit limit g → IsTable g ws →
-    (r : ℕ) → r < R g → totalIn g.N ws r ≤ limit
-total-fits = TableFits.total-fits
+pub total_fits : {g : Grammar} {ws : List ℕ} → InBounds g → AllFit limit g → IsTable g ws →
+    (r : ℕ) → r < R g → total_in g.N ws r ≤ limit
+total_fits = TableFits.total_fits
 
 -- THE CODE. Each promise settles its answer, and what `write` and `write_total` leave.
-pub entry-settles : (entry : ℕ) {r s : ℕ} → r ≡ entry → s ≡ entry → r ≡ s
-entry-settles = EntriesSettle.entry-settles
+pub entry_settles : (entry : ℕ) {r s : ℕ} → r ≡ entry → s ≡ entry → r ≡ s
+entry_settles = EntriesSettle.entry_settles
 
-pub figure-settles : (figure : ℕ) {r s : ℕ} → (r ≡ figure) × (r < 65536) → (s ≡ figure) × (s < 65536) → r ≡ s
-figure-settles = EntriesSettle.figure-settles
+pub figure_settles : (figure : ℕ) {r s : ℕ} → (r ≡ figure) × (r < 65536) → (s ≡ figure) × (s < 65536) → r ≡ s
+figure_settles = EntriesSettle.figure_settles
 
-pub write-settles : (before : List ℕ) (A : ℕ) (e : Entries) {after after' : List ℕ} →
-    after ≡ withEntries before A e → after' ≡ withEntries before A e → after ≡ after'
-write-settles = EntriesSettle.write-settles
+pub write_settles : (before : List ℕ) (A : ℕ) (e : Entries) {after after' : List ℕ} →
+    after ≡ with_entries before A e → after' ≡ with_entries before A e → after ≡ after'
+write_settles = EntriesSettle.write_settles
 
-pub write-total-settles : (before : List ℕ) (n r x : ℕ) {after after' : List ℕ} →
-    after ≡ withTotal before n r x → after' ≡ withTotal before n r x → after ≡ after'
-write-total-settles = EntriesSettle.write-total-settles
+pub write_total_settles : (before : List ℕ) (n r x : ℕ) {after after' : List ℕ} →
+    after ≡ with_total before n r x → after' ≡ with_total before n r x → after ≡ after'
+write_total_settles = EntriesSettle.write_total_settles
 
 -- SAMPLES. The tables that document 01 prints.
-pub D-has-table : IsTable D D-table
-D-has-table = ASampleOfTables.D-has-table
+pub D_has_table : IsTable D D_table
+D_has_table = ASampleOfTables.D_has_table
 
-pub empty-has-table : IsTable empty-rule (1 ∷ 0 ∷ 0 ∷ 65535 ∷ 65535 ∷ 1 ∷ [])
-empty-has-table = TableSamples.empty-has-table
+pub empty_has_table : IsTable empty_rule (1 ∷ 0 ∷ 0 ∷ 65535 ∷ 65535 ∷ 1 ∷ [])
+empty_has_table = TableSamples.empty_has_table
 
-pub loop-has-table : IsTable loop (2 ∷ 1 ∷ 0 ∷ 65535 ∷ 65535 ∷ 3 ∷ 2 ∷ [])
-loop-has-table = TableSamples.loop-has-table
+pub loop_has_table : IsTable loop (2 ∷ 1 ∷ 0 ∷ 65535 ∷ 65535 ∷ 3 ∷ 2 ∷ [])
+loop_has_table = TableSamples.loop_has_table

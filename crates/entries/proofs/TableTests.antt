@@ -6,39 +6,39 @@ use mathlib.Core.Logic.{◌↔◌}
 use mathlib.Core.List.{List}
 use Rattle.grammar.specs.Words.{Grammar, InBounds}
 use Rattle.grammar.specs.Terms.{measure}
-use Rattle.grammar.proofs.FigureCertificate.{figure-certificate}
+use Rattle.grammar.proofs.FigureCertificate.{figure_certificate}
 use Rattle.entries.specs.Table.{IsTable}
-use Rattle.entries.specs.TableCertificates.{figuresOf, Passes}
+use Rattle.entries.specs.TableCertificates.{figures_of, Passes}
 
 module _ (g : Grammar) (ok : InBounds g) (ws : List ℕ) where
   to : Passes g ws → IsTable g ws
   to p =
-      let f = (figure-certificate measure g (figuresOf g ws) ok).0 p.figures in
+      let f = (figure_certificate measure g (figures_of g ws) ok).0 p.figures in
       record {
         long = p.long;
         leasts = f.leasts;
         chosen = f.chosens;
         contexts = f.contexts;
         choices = f.choices;
-        start-rule = p.start-rule;
-        start-place = p.start-place;
+        start_rule = p.start_rule;
+        start_place = p.start_place;
         totals = f.totals;
       }
 
   from : IsTable g ws → Passes g ws
   from t = record {
     long = t.long;
-    figures = (figure-certificate measure g (figuresOf g ws) ok).1 (record {
+    figures = (figure_certificate measure g (figures_of g ws) ok).1 (record {
       leasts = t.leasts;
       chosens = t.chosen;
       contexts = t.contexts;
       choices = t.choices;
       totals = t.totals;
     });
-    start-rule = t.start-rule;
-    start-place = t.start-place;
+    start_rule = t.start_rule;
+    start_place = t.start_place;
   }
 
   -- EXACT: these tests, and nothing else
-  pub table-tests : Passes g ws ↔ IsTable g ws
-  table-tests = (to, from)
+  pub table_tests : Passes g ws ↔ IsTable g ws
+  table_tests = (to, from)

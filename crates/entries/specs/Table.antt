@@ -9,57 +9,57 @@ use Rattle.grammar.specs.Refusals.{Accepted}
 use Rattle.grammar.specs.Terms.{measure, limit}
 
 -- "5N + R words for R rules"
-abbrev pub lengthFor : ℕ → ℕ → ℕ
-lengthFor n rules = 5 * n + rules
+abbrev pub length_for : ℕ → ℕ → ℕ
+length_for n rules = 5 * n + rules
 
-abbrev pub tableLength : Grammar → ℕ
-tableLength g = lengthFor g.N (R g)
+abbrev pub table_length : Grammar → ℕ
+table_length g = length_for g.N (R g)
 
 -- the most words that a table has: those of 128 nonterminals and 256 rules
-abbrev pub mostTable : ℕ
-mostTable = 896
+abbrev pub most_table : ℕ
+most_table = 896
 
 -- "for each nonterminal five words": word j of those of A
 abbrev pub entry : List ℕ → ℕ → ℕ → ℕ
 entry ws A j = get_or ws (5 * A + j) 0
 
 -- "least, chosen rule, context, context rule, place counted from 0"
-abbrev pub leastIn : List ℕ → ℕ → ℕ
-leastIn ws A = entry ws A 0
+abbrev pub least_in : List ℕ → ℕ → ℕ
+least_in ws A = entry ws A 0
 
-abbrev pub chosenIn : List ℕ → ℕ → ℕ
-chosenIn ws A = entry ws A 1
+abbrev pub chosen_in : List ℕ → ℕ → ℕ
+chosen_in ws A = entry ws A 1
 
-abbrev pub contextIn : List ℕ → ℕ → ℕ
-contextIn ws A = entry ws A 2
+abbrev pub context_in : List ℕ → ℕ → ℕ
+context_in ws A = entry ws A 2
 
-abbrev pub ruleIn : List ℕ → ℕ → ℕ
-ruleIn ws A = entry ws A 3
+abbrev pub rule_in : List ℕ → ℕ → ℕ
+rule_in ws A = entry ws A 3
 
 abbrev pub place_in : List ℕ → ℕ → ℕ
 place_in ws A = entry ws A 4
 
 -- "then one total per rule", behind the words of n nonterminals
-abbrev pub totalIn : ℕ → List ℕ → ℕ → ℕ
-totalIn n ws r = get_or ws (5 * n + r) 0
+abbrev pub total_in : ℕ → List ℕ → ℕ → ℕ
+total_in n ws r = get_or ws (5 * n + r) 0
 
 -- "The start has 65535 for context rule and place."
-abbrev pub noChoice : ℕ
-noChoice = 65535
+abbrev pub no_choice : ℕ
+no_choice = 65535
 
 pub record IsTable (g : Grammar) (ws : List ℕ) : Type 0 where
-  pub long : length ws ≡ tableLength g
-  pub leasts : (A : ℕ) → A < g.N → Least measure g A (leastIn ws A)
-  pub chosen : (A : ℕ) → A < g.N → Chosen measure g A (chosenIn ws A)
-  pub contexts : (A : ℕ) → A < g.N → Context measure g A (contextIn ws A)
-  pub choices : (A : ℕ) → A < g.N → ¬ (A ≡ g.start) → ContextChoice measure g A (ruleIn ws A) (place_in ws A)
-  pub start-rule : ruleIn ws g.start ≡ noChoice
-  pub start-place : place_in ws g.start ≡ noChoice
-  pub totals : (r : ℕ) → r < R g → Total measure g r (totalIn g.N ws r)
+  pub long : length ws ≡ table_length g
+  pub leasts : (A : ℕ) → A < g.N → Least measure g A (least_in ws A)
+  pub chosen : (A : ℕ) → A < g.N → Chosen measure g A (chosen_in ws A)
+  pub contexts : (A : ℕ) → A < g.N → Context measure g A (context_in ws A)
+  pub choices : (A : ℕ) → A < g.N → ¬ (A ≡ g.start) → ContextChoice measure g A (rule_in ws A) (place_in ws A)
+  pub start_rule : rule_in ws g.start ≡ no_choice
+  pub start_place : place_in ws g.start ≡ no_choice
+  pub totals : (r : ℕ) → r < R g → Total measure g r (total_in g.N ws r)
 
 -- the first 5N + R of these words are there and are the grammar's table; what follows them is not looked at
 abbrev pub HasTable : Grammar → List ℕ → Type 0
-HasTable g ws = IsTable g (take (tableLength g) ws)
+HasTable g ws = IsTable g (take (table_length g) ws)
 
 -- accepted, and the table is its own
 abbrev pub Own : List ℕ → Grammar → Type 0

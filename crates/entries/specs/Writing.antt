@@ -4,21 +4,21 @@ use Rattle.std.specs.Prelude.{ℕ, zero, suc, ◌+◌, ◌-◌, ◌*◌, ◌/◌
 use Rattle.answers.specs.Lists.{tabulate}
 use Rattle.grammar.specs.Certificates.{either, Figures}
 use Rattle.grammar.specs.Terms.{measure}
-use Rattle.entries.specs.Table.{lengthFor}
+use Rattle.entries.specs.Table.{length_for}
 use Rattle.entries.specs.declared.Entries.{Entries}
 
 -- words with the entries of A stored in them, and with the total of rule r behind n nonterminals
-abbrev pub withEntries : List ℕ → ℕ → Entries → List ℕ
-withEntries ws A e =
+abbrev pub with_entries : List ℕ → ℕ → Entries → List ℕ
+with_entries ws A e =
     set (set (set (set (set ws (5 * A) e.least) (5 * A + 1) e.chosen) (5 * A + 2) e.context) (5 * A + 3) e.rule)
     (5 * A + 4) e.place
 
-abbrev pub withTotal : List ℕ → ℕ → ℕ → ℕ → List ℕ
-withTotal ws n r x = set ws (5 * n + r) x
+abbrev pub with_total : List ℕ → ℕ → ℕ → ℕ → List ℕ
+with_total ws n r x = set ws (5 * n + r) x
 
 -- the entries that figures give A
-abbrev pub entriesOf : Figures measure → ℕ → Entries
-entriesOf F A = record { least = F.least A; chosen = F.chosen A; context = F.context A; rule = F.rule A; place = F.place A }
+abbrev pub entries_of : Figures measure → ℕ → Entries
+entries_of F A = record { least = F.least A; chosen = F.chosen A; context = F.context A; rule = F.rule A; place = F.place A }
 
 -- word j of those of A, and word i of the table of n nonterminals
 abbrev pub word_of : Figures measure → ℕ → ℕ → ℕ
@@ -33,11 +33,11 @@ word_at n F i = either (ltb i (5 * n)) (word_of F (i / 5) (i % 5)) (F.total (i -
 
 -- the table that figures make of n nonterminals and so many rules
 unfoldable pub table_of : ℕ → ℕ → Figures measure → List ℕ
-table_of n rules F = tabulate (word_at n F) (lengthFor n rules)
+table_of n rules F = tabulate (word_at n F) (length_for n rules)
 
 -- a buffer with the entries of the nonterminals below A in it; and with those of all, and the totals of the rules below r
-unfoldable pub enteredTo : ℕ → ℕ → Figures measure → List ℕ → ℕ → List ℕ
-enteredTo n rules F before A = take (5 * A) (table_of n rules F) ++ drop (5 * A) before
+unfoldable pub entered_to : ℕ → ℕ → Figures measure → List ℕ → ℕ → List ℕ
+entered_to n rules F before A = take (5 * A) (table_of n rules F) ++ drop (5 * A) before
 
-unfoldable pub totalledTo : ℕ → ℕ → Figures measure → List ℕ → ℕ → List ℕ
-totalledTo n rules F before r = take (5 * n + r) (table_of n rules F) ++ drop (5 * n + r) before
+unfoldable pub totalled_to : ℕ → ℕ → Figures measure → List ℕ → ℕ → List ℕ
+totalled_to n rules F before r = take (5 * n + r) (table_of n rules F) ++ drop (5 * n + r) before

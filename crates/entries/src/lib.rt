@@ -2,8 +2,8 @@
 // nonterminal and a rule are numbers of 16 bits, as words have them, so that every index can be counted; past the end of the
 // words an entry is 0, and nothing is written.
 ghost use Rattle.std.specs.Prelude.{◌≡◌, ◌<◌};
-ghost use Rattle.entries.specs.Table.{lengthFor, leastIn, chosenIn, contextIn, ruleIn, place_in, totalIn};
-ghost use Rattle.entries.specs.Writing.{withEntries, withTotal};
+ghost use Rattle.entries.specs.Table.{length_for, least_in, chosen_in, context_in, rule_in, place_in, total_in};
+ghost use Rattle.entries.specs.Writing.{with_entries, with_total};
 
 use cells::{put, read, wide};
 
@@ -28,32 +28,32 @@ pub struct Entries {
 
 // How many words the table of so many nonterminals and rules has.
 pub fn length(nonterminals: u16, rules: u16) -> usize
-    ensures { result ≡ lengthFor nonterminals rules }
+    ensures { result ≡ length_for nonterminals rules }
 {
     5 * wide(nonterminals) + wide(rules)
 }
 
 pub fn least(table: &[u16], a: u16) -> usize
-    ensures { (result ≡ leastIn table.now a) × (result < 65536) }
+    ensures { (result ≡ least_in table.now a) × (result < 65536) }
 {
     wide(read(table, 5 * wide(a)))
 }
 
 pub fn chosen(table: &[u16], a: u16) -> u16
-    ensures { result ≡ chosenIn table.now a }
+    ensures { result ≡ chosen_in table.now a }
 {
     read(table, 5 * wide(a) + 1)
 }
 
 pub fn context(table: &[u16], a: u16) -> usize
-    ensures { (result ≡ contextIn table.now a) × (result < 65536) }
+    ensures { (result ≡ context_in table.now a) × (result < 65536) }
 {
     wide(read(table, 5 * wide(a) + 2))
 }
 
 // The context rule.
 pub fn rule(table: &[u16], a: u16) -> u16
-    ensures { result ≡ ruleIn table.now a }
+    ensures { result ≡ rule_in table.now a }
 {
     read(table, 5 * wide(a) + 3)
 }
@@ -67,14 +67,14 @@ pub fn place(table: &[u16], a: u16) -> u16
 
 // The total of a rule.
 pub fn total(table: &[u16], nonterminals: u16, r: u16) -> usize
-    ensures { (result ≡ totalIn nonterminals table.now r) × (result < 65536) }
+    ensures { (result ≡ total_in nonterminals table.now r) × (result < 65536) }
 {
     wide(read(table, 5 * wide(nonterminals) + wide(r)))
 }
 
 // Writes the entries of a.
 pub fn write(table: &mut [u16], a: u16, entries: Entries)
-    ensures { table.new ≡ withEntries table.old a entries }
+    ensures { table.new ≡ with_entries table.old a entries }
 {
     let at = 5 * wide(a);
     put(table, at, entries.least);
@@ -86,7 +86,7 @@ pub fn write(table: &mut [u16], a: u16, entries: Entries)
 
 // Writes the total of a rule.
 pub fn write_total(table: &mut [u16], nonterminals: u16, r: u16, total: u16)
-    ensures { table.new ≡ withTotal table.old nonterminals r total }
+    ensures { table.new ≡ with_total table.old nonterminals r total }
 {
     put(table, 5 * wide(nonterminals) + wide(r), total);
 }

@@ -7,31 +7,31 @@ use native.Mathlib.Decide.{ℕ_discrete}
 use native.Mathlib.Omega.{arith}
 use lib.ListN.{length, set, length-set}
 use lib.Seq.{get_or-set_same, get_or-set_other}
-use Rattle.figures.specs.Figures.{noFigure, figure, Has, Lowered, fell, stayed}
+use Rattle.figures.specs.Figures.{no_figure, figure, Has, Lowered, fell, stayed}
 
 -- at most one falls
-pub lowered-once : {xs ys : List ℕ} {A to n : ℕ} → Lowered xs A to ys n → n ≤ 1
-lowered-once (fell h l) = omega arith
-lowered-once (stayed h) = omega arith
+pub lowered_once : {xs ys : List ℕ} {A to n : ℕ} → Lowered xs A to ys n → n ≤ 1
+lowered_once (fell h l) = omega arith
+lowered_once (stayed h) = omega arith
 
-pub lowered-length : {xs ys : List ℕ} {A to n : ℕ} → Lowered xs A to ys n → length ys ≡ length xs
-lowered-length {xs} {A = A} {to = to} (fell h l) = length-set xs A to
-lowered-length (stayed h) = refl
+pub lowered_length : {xs ys : List ℕ} {A to n : ℕ} → Lowered xs A to ys n → length ys ≡ length xs
+lowered_length {xs} {A = A} {to = to} (fell h l) = length-set xs A to
+lowered_length (stayed h) = refl
 
-pub lowered-no-higher : {xs ys : List ℕ} {A to n : ℕ} → Lowered xs A to ys n → (B : ℕ) → figure ys B ≤ figure xs B
-lowered-no-higher {xs} {A = A} {to = to} (fell h l) B = go (ℕ_discrete B A)
+pub lowered_no_higher : {xs ys : List ℕ} {A to n : ℕ} → Lowered xs A to ys n → (B : ℕ) → figure ys B ≤ figure xs B
+lowered_no_higher {xs} {A = A} {to = to} (fell h l) B = go (ℕ_discrete B A)
   where
     go : Dec (B ≡ A) → figure (set xs A to) B ≤ figure xs B
-    go (yes e) = rw e (omega (arith, get_or-set_same xs A to noFigure h))
-    go (no d) = omega (arith, get_or-set_other xs A B to noFigure d)
-lowered-no-higher (stayed h) B = omega arith
+    go (yes e) = rw e (omega (arith, get_or-set_same xs A to no_figure h))
+    go (no d) = omega (arith, get_or-set_other xs A B to no_figure d)
+lowered_no_higher (stayed h) B = omega arith
 
 module _ (P : ℕ → ℕ → Type 0) where
-  pub lowered-known : {xs ys : List ℕ} {A to n : ℕ} → Lowered xs A to ys n → P A to →
+  pub lowered_known : {xs ys : List ℕ} {A to n : ℕ} → Lowered xs A to ys n → P A to →
       ((B : ℕ) → Has xs B → P B (figure xs B)) → (B : ℕ) → Has ys B → P B (figure ys B)
-  lowered-known {xs} {A = A} {to = to} (fell h l) p known B has = go (ℕ_discrete B A)
+  lowered_known {xs} {A = A} {to = to} (fell h l) p known B has = go (ℕ_discrete B A)
     where
       go : Dec (B ≡ A) → P B (figure (set xs A to) B)
-      go (yes e) = rw (e, get_or-set_same xs A to noFigure h) p
-      go (no d) = let same = get_or-set_other xs A B to noFigure d in rw same (known B (rw same at has))
-  lowered-known (stayed h) p known B has = known B has
+      go (yes e) = rw (e, get_or-set_same xs A to no_figure h) p
+      go (no d) = let same = get_or-set_other xs A B to no_figure d in rw same (known B (rw same at has))
+  lowered_known (stayed h) p known B has = known B has

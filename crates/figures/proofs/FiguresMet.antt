@@ -10,8 +10,8 @@ use Rattle.figures.specs.Figures.{figure, Lowered, fell, stayed, FirstAbove, fou
 use Rattle.figures.specs.declared.Found.{Found}
 use Rattle.figures.specs.declared.Found.TheVariants.{At, Nothing}
 
-pub lower-met : (before : List ℕ) (a to : ℕ) → (after : List ℕ) × (r : ℕ) × Lowered before a to after r
-lower-met before a to = go (dec_lt a (length before)) (dec_lt to (figure before a))
+pub lower_met : (before : List ℕ) (a to : ℕ) → (after : List ℕ) × (r : ℕ) × Lowered before a to after r
+lower_met before a to = go (dec_lt a (length before)) (dec_lt to (figure before a))
   where
     go : Dec (a < length before) → Dec (to < figure before a) → (after : List ℕ) × (r : ℕ) × Lowered before a to after r
     go (yes h) (yes l) = (set before a to, 1, fell h l)
@@ -26,8 +26,8 @@ module _ (xs : List ℕ) (n most : ℕ) where
   abbrev LowBelow : ℕ → Type 0
   LowBelow a = (b : ℕ) → b < a → figure xs b ≤ most
 
-  one-looked-at : (a : ℕ) → a < n → LowBelow a → (LowBelow (suc a) → Search) → Search
-  one-looked-at a l low others = go (dec_lt most (figure xs a))
+  one_looked_at : (a : ℕ) → a < n → LowBelow a → (LowBelow (suc a) → Search) → Search
+  one_looked_at a l low others = go (dec_lt most (figure xs a))
     where
       next : figure xs a ≤ most → (b : ℕ) → Dec (b ≡ a) → b < suc a → figure xs b ≤ most
       next h b (yes e) k = rw e h
@@ -37,13 +37,13 @@ module _ (xs : List ℕ) (n most : ℕ) where
       go (yes above) = (At a, found_at l above low)
       go (no h) = others (λ b. next (omega arith) b (ℕ_discrete b a))
 
-  search-from : (left a : ℕ) → a + left ≡ n → LowBelow a → Search
-  search-from zero a e low = (Nothing, found_none (λ b h. low b (omega arith)))
-  search-from (suc left) a e low = one-looked-at a (omega arith) low (λ more. search-from left (suc a) (omega arith) more)
+  search_from : (left a : ℕ) → a + left ≡ n → LowBelow a → Search
+  search_from zero a e low = (Nothing, found_none (λ b h. low b (omega arith)))
+  search_from (suc left) a e low = one_looked_at a (omega arith) low (λ more. search_from left (suc a) (omega arith) more)
 
-  pub first-above-met : Search
-  first-above-met = search-from n 0 (omega arith) (λ b h. absurd (omega arith))
+  pub first_above_met : Search
+  first_above_met = search_from n 0 (omega arith) (λ b h. absurd (omega arith))
 
-pub in-turn-met : (i rules : ℕ) (up : Bool) → (r : ℕ) × (r ≡ turn up rules i) × (i < rules → r < rules)
-in-turn-met i rules true = (i, refl, λ h. h)
-in-turn-met i rules false = (turn false rules i, refl, λ h. omega arith)
+pub in_turn_met : (i rules : ℕ) (up : Bool) → (r : ℕ) × (r ≡ turn up rules i) × (i < rules → r < rules)
+in_turn_met i rules true = (i, refl, λ h. h)
+in_turn_met i rules false = (turn false rules i, refl, λ h. omega arith)

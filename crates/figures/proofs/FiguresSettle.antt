@@ -9,32 +9,32 @@ use Rattle.figures.specs.Figures.{figure, capped, Lowered, fell, stayed, FirstAb
 use Rattle.figures.specs.declared.Found.{Found}
 use Rattle.figures.specs.declared.Found.TheVariants.{At}
 
-pub figure-at-settles : (xs : List ℕ) (a : ℕ) {r s : ℕ} → (r ≡ figure xs a) × (r ≤ 65535) → (s ≡ figure xs a) × (s ≤ 65535) → r ≡ s
-figure-at-settles xs a p q = p.0 ∙ sym q.0
+pub figure_at_settles : (xs : List ℕ) (a : ℕ) {r s : ℕ} → (r ≡ figure xs a) × (r ≤ 65535) → (s ≡ figure xs a) × (s ≤ 65535) → r ≡ s
+figure_at_settles xs a p q = p.0 ∙ sym q.0
 
-pub cap-settles : (size : ℕ) {r s : ℕ} → r ≡ capped size → s ≡ capped size → r ≡ s
-cap-settles size p q = p ∙ sym q
+pub cap_settles : (size : ℕ) {r s : ℕ} → r ≡ capped size → s ≡ capped size → r ≡ s
+cap_settles size p q = p ∙ sym q
 
 -- the figure is higher, or it is not
-pub lower-settles : {before : List ℕ} {a to : ℕ} {after after' : List ℕ} {r s : ℕ} →
+pub lower_settles : {before : List ℕ} {a to : ℕ} {after after' : List ℕ} {r s : ℕ} →
     Lowered before a to after r → Lowered before a to after' s → (after ≡ after') × (r ≡ s)
-lower-settles (fell h l) (fell h' l') = (refl, refl)
-lower-settles (fell h l) (stayed k) = absurd (omega (arith, k h))
-lower-settles (stayed k) (fell h l) = absurd (omega (arith, k h))
-lower-settles (stayed k) (stayed k') = (refl, refl)
+lower_settles (fell h l) (fell h' l') = (refl, refl)
+lower_settles (fell h l) (stayed k) = absurd (omega (arith, k h))
+lower_settles (stayed k) (fell h l) = absurd (omega (arith, k h))
+lower_settles (stayed k) (stayed k') = (refl, refl)
 
 -- neither of two lowest places is below the other
-pub first-above-settles : (xs : List ℕ) (n most : ℕ) {a b : Found} → FirstAbove xs n most a → FirstAbove xs n most b → a ≡ b
-first-above-settles xs n most (found_at {a} l z below) (found_at {a = b} m y under) = same (dec_lt a b) (dec_lt b a)
+pub first_above_settles : (xs : List ℕ) (n most : ℕ) {a b : Found} → FirstAbove xs n most a → FirstAbove xs n most b → a ≡ b
+first_above_settles xs n most (found_at {a} l z below) (found_at {a = b} m y under) = same (dec_lt a b) (dec_lt b a)
   where
     same : Dec (a < b) → Dec (b < a) → At a ≡ At b
     same (yes lt) e = absurd (omega (arith, under a lt))
     same (no ge) (yes lt) = absurd (omega (arith, below b lt))
     same (no ge) (no le) = let e : a ≡ b = omega arith in rw e refl
-first-above-settles xs n most (found_at {a} l z below) (found_none all) = absurd (omega (arith, all a l))
-first-above-settles xs n most (found_none all) (found_at {a} l z below) = absurd (omega (arith, all a l))
-first-above-settles xs n most (found_none all) (found_none every) = refl
+first_above_settles xs n most (found_at {a} l z below) (found_none all) = absurd (omega (arith, all a l))
+first_above_settles xs n most (found_none all) (found_at {a} l z below) = absurd (omega (arith, all a l))
+first_above_settles xs n most (found_none all) (found_none every) = refl
 
-pub in-turn-settles : (i rules : ℕ) (up : Bool) {r s : ℕ} → (r ≡ turn up rules i) × (i < rules → r < rules) →
+pub in_turn_settles : (i rules : ℕ) (up : Bool) {r s : ℕ} → (r ≡ turn up rules i) × (i < rules → r < rules) →
     (s ≡ turn up rules i) × (i < rules → s < rules) → r ≡ s
-in-turn-settles i rules up p q = p.0 ∙ sym q.0
+in_turn_settles i rules up p q = p.0 ∙ sym q.0

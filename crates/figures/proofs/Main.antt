@@ -10,31 +10,31 @@ use Rattle.figures.proofs.FiguresSettle as FiguresSettle
 use Rattle.figures.proofs.FiguresMet as FiguresMet
 
 -- FIGURE AT, CAP
-pub figure-at-settles : (xs : List ℕ) (a : ℕ) {r s : ℕ} → (r ≡ figure xs a) × (r ≤ 65535) → (s ≡ figure xs a) × (s ≤ 65535) → r ≡ s
-figure-at-settles = FiguresSettle.figure-at-settles
+pub figure_at_settles : (xs : List ℕ) (a : ℕ) {r s : ℕ} → (r ≡ figure xs a) × (r ≤ 65535) → (s ≡ figure xs a) × (s ≤ 65535) → r ≡ s
+figure_at_settles = FiguresSettle.figure_at_settles
 
-pub cap-settles : (size : ℕ) {r s : ℕ} → r ≡ capped size → s ≡ capped size → r ≡ s
-cap-settles = FiguresSettle.cap-settles
+pub cap_settles : (size : ℕ) {r s : ℕ} → r ≡ capped size → s ≡ capped size → r ≡ s
+cap_settles = FiguresSettle.cap_settles
 
 -- LOWER
-pub lower-settles : {before : List ℕ} {a to : ℕ} {after after' : List ℕ} {r s : ℕ} →
+pub lower_settles : {before : List ℕ} {a to : ℕ} {after after' : List ℕ} {r s : ℕ} →
     Lowered before a to after r → Lowered before a to after' s → (after ≡ after') × (r ≡ s)
-lower-settles = FiguresSettle.lower-settles
+lower_settles = FiguresSettle.lower_settles
 
-pub lower-met : (before : List ℕ) (a to : ℕ) → (after : List ℕ) × (r : ℕ) × Lowered before a to after r
-lower-met = FiguresMet.lower-met
+pub lower_met : (before : List ℕ) (a to : ℕ) → (after : List ℕ) × (r : ℕ) × Lowered before a to after r
+lower_met = FiguresMet.lower_met
 
 -- FIRST ABOVE
-pub first-above-settles : (xs : List ℕ) (n most : ℕ) {a b : Found} → FirstAbove xs n most a → FirstAbove xs n most b → a ≡ b
-first-above-settles = FiguresSettle.first-above-settles
+pub first_above_settles : (xs : List ℕ) (n most : ℕ) {a b : Found} → FirstAbove xs n most a → FirstAbove xs n most b → a ≡ b
+first_above_settles = FiguresSettle.first_above_settles
 
-pub first-above-met : (xs : List ℕ) (n most : ℕ) → (r : Found) × FirstAbove xs n most r
-first-above-met = FiguresMet.first-above-met
+pub first_above_met : (xs : List ℕ) (n most : ℕ) → (r : Found) × FirstAbove xs n most r
+first_above_met = FiguresMet.first_above_met
 
 -- IN TURN
-pub in-turn-settles : (i rules : ℕ) (up : Bool) {r s : ℕ} → (r ≡ turn up rules i) × (i < rules → r < rules) →
+pub in_turn_settles : (i rules : ℕ) (up : Bool) {r s : ℕ} → (r ≡ turn up rules i) × (i < rules → r < rules) →
     (s ≡ turn up rules i) × (i < rules → s < rules) → r ≡ s
-in-turn-settles = FiguresSettle.in-turn-settles
+in_turn_settles = FiguresSettle.in_turn_settles
 
-pub in-turn-met : (i rules : ℕ) (up : Bool) → (r : ℕ) × (r ≡ turn up rules i) × (i < rules → r < rules)
-in-turn-met = FiguresMet.in-turn-met
+pub in_turn_met : (i rules : ℕ) (up : Bool) → (r : ℕ) × (r ≡ turn up rules i) × (i < rules → r < rules)
+in_turn_met = FiguresMet.in_turn_met

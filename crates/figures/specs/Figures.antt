@@ -1,5 +1,5 @@
 -- What the calls of this crate promise, for any words and any numbers. A figure is a word of an array, one for each nonterminal:
--- the least or the context found so far, cut at document 01's limit and one more, or `noFigure` where none is found yet. That is no
+-- the least or the context found so far, cut at document 01's limit and one more, or `no_figure` where none is found yet. That is no
 -- figure, and no cut makes one of it. Past the end of the array there is none either. Assumes nothing.
 use Rattle.std.specs.Prelude.{ℕ, ◌-◌, ◌≤◌, ◌<◌, min, ◌≡◌, Bool, true, false, List, length, get_or, set}
 use Rattle.grammar.specs.Caps.{ceiling}
@@ -7,14 +7,14 @@ use Rattle.figures.specs.declared.Found.{Found}
 use Rattle.figures.specs.declared.Found.TheVariants.{At, Nothing}
 
 -- stands where there is no figure
-abbrev pub noFigure : ℕ
-noFigure = 65535
+abbrev pub no_figure : ℕ
+no_figure = 65535
 
 abbrev pub figure : List ℕ → ℕ → ℕ
-figure xs A = get_or xs A noFigure
+figure xs A = get_or xs A no_figure
 
 abbrev pub Has : List ℕ → ℕ → Type 0
-Has xs A = ¬ (figure xs A ≡ noFigure)
+Has xs A = ¬ (figure xs A ≡ no_figure)
 
 abbrev pub capped : ℕ → ℕ
 capped x = min x ceiling

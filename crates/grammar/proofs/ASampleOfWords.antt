@@ -6,76 +6,76 @@ use mathlib.Core.List.{List, [], ◌∷◌}
 use Prim.Native.Nat.{ℕ}
 use lib.ListN.{replicate}
 use Rattle.grammar.specs.Words.{Grammar, ◌⟶◌, layout, lefts, reads, faults}
-use Rattle.grammar.specs.Samples.{D-words, D}
+use Rattle.grammar.specs.Samples.{D_words, D}
 
-pub D-reads : layout D-words ≡ reads D
+pub D_reads : layout D_words ≡ reads D
 unfolding layout lefts
-D-reads = refl
+D_reads = refl
 
 pub no_words : layout [] ≡ faults 0
 unfolding layout
 no_words = refl
 
-pub ends-early : layout (3 ∷ 4 ∷ []) ≡ faults 2
+pub ends_early : layout (3 ∷ 4 ∷ []) ≡ faults 2
 unfolding layout
-ends-early = refl
+ends_early = refl
 
-pub no-rules : layout (1 ∷ 0 ∷ 0 ∷ []) ≡ reads (record { N = 1; T = 0; start = 0; rules = [] })
+pub no_rules : layout (1 ∷ 0 ∷ 0 ∷ []) ≡ reads (record { N = 1; T = 0; start = 0; rules = [] })
 unfolding layout lefts
-no-rules = refl
+no_rules = refl
 
 -- 128 and 129 nonterminals, 1,024 and 1,025 terminals, a start of N
 abbrev head : ℕ → ℕ → ℕ → Grammar
 head N T S = record { N = N; T = T; start = S; rules = [] }
 
-pub nonterminals-128 : layout (128 ∷ 1024 ∷ 127 ∷ []) ≡ reads (head 128 1024 127)
+pub nonterminals_128 : layout (128 ∷ 1024 ∷ 127 ∷ []) ≡ reads (head 128 1024 127)
 unfolding layout lefts
-nonterminals-128 = refl
+nonterminals_128 = refl
 
-pub nonterminals-129 : layout (129 ∷ 0 ∷ 0 ∷ []) ≡ faults 0
+pub nonterminals_129 : layout (129 ∷ 0 ∷ 0 ∷ []) ≡ faults 0
 unfolding layout
-nonterminals-129 = refl
+nonterminals_129 = refl
 
-pub terminals-1025 : layout (1 ∷ 1025 ∷ 0 ∷ []) ≡ faults 1
+pub terminals_1025 : layout (1 ∷ 1025 ∷ 0 ∷ []) ≡ faults 1
 unfolding layout
-terminals-1025 = refl
+terminals_1025 = refl
 
-pub start-not-below : layout (2 ∷ 0 ∷ 2 ∷ []) ≡ faults 2
+pub start_not_below : layout (2 ∷ 0 ∷ 2 ∷ []) ≡ faults 2
 unfolding layout
-start-not-below = refl
+start_not_below = refl
 
 -- N = T = 1, start 0: symbol 0 is a nonterminal, 1 a terminal and 2 neither
-abbrev one-rule : List ℕ → List ℕ
-one-rule ws = 1 ∷ 1 ∷ 0 ∷ 0 ∷ ws
+abbrev one_rule : List ℕ → List ℕ
+one_rule ws = 1 ∷ 1 ∷ 0 ∷ 0 ∷ ws
 
-abbrev rule-of : List ℕ → Grammar
-rule-of w = record { N = 1; T = 1; start = 0; rules = (0 ⟶ w) ∷ [] }
+abbrev rule_of : List ℕ → Grammar
+rule_of w = record { N = 1; T = 1; start = 0; rules = (0 ⟶ w) ∷ [] }
 
-pub symbols-below : layout (one-rule (2 ∷ 0 ∷ 1 ∷ [])) ≡ reads (rule-of (0 ∷ 1 ∷ []))
+pub symbols_below : layout (one_rule (2 ∷ 0 ∷ 1 ∷ [])) ≡ reads (rule_of (0 ∷ 1 ∷ []))
 unfolding layout lefts
-symbols-below = refl
+symbols_below = refl
 
-pub symbol-not-below : layout (one-rule (2 ∷ 0 ∷ 2 ∷ [])) ≡ faults 6
+pub symbol_not_below : layout (one_rule (2 ∷ 0 ∷ 2 ∷ [])) ≡ faults 6
 unfolding layout lefts
-symbol-not-below = refl
+symbol_not_below = refl
 
-pub left-not-below : layout (1 ∷ 1 ∷ 0 ∷ 1 ∷ 0 ∷ []) ≡ faults 3
+pub left_not_below : layout (1 ∷ 1 ∷ 0 ∷ 1 ∷ 0 ∷ []) ≡ faults 3
 unfolding layout lefts
-left-not-below = refl
+left_not_below = refl
 
-pub count-32 : layout (one-rule (32 ∷ replicate 32 1)) ≡ reads (rule-of (replicate 32 1))
+pub count_32 : layout (one_rule (32 ∷ replicate 32 1)) ≡ reads (rule_of (replicate 32 1))
 unfolding layout lefts
-count-32 = refl
+count_32 = refl
 
-pub count-33 : layout (one-rule (33 ∷ replicate 33 1)) ≡ faults 4
+pub count_33 : layout (one_rule (33 ∷ replicate 33 1)) ≡ faults 4
 unfolding layout lefts
-count-33 = refl
+count_33 = refl
 
 -- rules of no symbols: a left side and a count, both 0
 pub rules-256 : layout (1 ∷ 0 ∷ 0 ∷ replicate 512 0) ≡ reads (record { N = 1; T = 0; start = 0; rules = replicate 256 (0 ⟶ []) })
 unfolding layout lefts
 rules-256 = refl
 
-pub rules-257 : layout (1 ∷ 0 ∷ 0 ∷ replicate 514 0) ≡ faults 515
+pub rules_257 : layout (1 ∷ 0 ∷ 0 ∷ replicate 514 0) ≡ faults 515
 unfolding layout lefts
-rules-257 = refl
+rules_257 = refl

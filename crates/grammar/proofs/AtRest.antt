@@ -12,21 +12,21 @@ use mathlib.Core.List.Memᴰ
 use mathlib.Core.List.{List, [], ◌∷◌}
 use Rattle.grammar.specs.Words.{Grammar, RuleAt}
 use Rattle.grammar.specs.Tree.{Tree, Forest, node, nil, leaf, child, Open, root, down, ◌∈◌}
-use Rattle.grammar.specs.Measure.{Cost, treeCost, forestCost, openCost}
+use Rattle.grammar.specs.Measure.{Cost, tree_cost, forest_cost, open_cost}
 use Rattle.grammar.specs.Refusals.{NoTree, AllTrees, Reached, Unreached}
-use Rattle.grammar.specs.Certificates.{Stuck, symbolSize, word_size, Holds, othersSize}
-use Rattle.grammar.proofs.Dead.{stuck-no-tree, gap-nonterminal, open-reached, reached-open}
+use Rattle.grammar.specs.Certificates.{Stuck, symbol_size, word_size, Holds, others_size}
+use Rattle.grammar.proofs.Dead.{stuck_no_tree, gap_nonterminal, open_reached, reached_open}
 use Rattle.grammar.proofs.Search.{member?, some_below}
-use Rattle.grammar.proofs.Certificate.{symbol-nonterminal, symbol-terminal}
-use Rattle.grammar.proofs.ContextCertificate.{gap-holds, least-gap}
-use Rattle.grammar.proofs.LeastsExist.{leasts-exist}
+use Rattle.grammar.proofs.Certificate.{symbol_nonterminal, symbol_terminal}
+use Rattle.grammar.proofs.ContextCertificate.{gap_holds, least_gap}
+use Rattle.grammar.proofs.LeastsExist.{leasts_exist}
 use Rattle.grammar.specs.Caps.{Cap}
-use Rattle.grammar.proofs.Cap.{cap-cap, cap-same}
+use Rattle.grammar.proofs.Cap.{cap-cap, cap_same}
 use Rattle.grammar.specs.Caps.{CappedCertificate, OfTree}
-use Rattle.grammar.proofs.CappedLeasts.{certificate-trees, capped-certificate}
+use Rattle.grammar.proofs.CappedLeasts.{certificate_trees, capped_certificate}
 use Rattle.grammar.specs.Caps.{CappedContextCertificate, OfOpen}
 use Rattle.grammar.specs.Caps.{LeastsAtRest, ContextsAtRest}
-use Rattle.grammar.proofs.CappedContexts.{others-caps}
+use Rattle.grammar.proofs.CappedContexts.{others_caps}
 
 module _ (c : Cost) (κ : Cap c) (g : Grammar) (v : ℕ → c.C) where
   open c use {C, 𝟎, ◌⊕◌, ◌≼◌, once}
@@ -35,28 +35,28 @@ module _ (c : Cost) (κ : Cap c) (g : Grammar) (v : ℕ → c.C) where
   infixl 60 ◌⊕◌
   infix 40 ◌≼◌
   -- what a rule comes to, whose nonterminals have such figures, is such a figure of its left side
-  figures-forest : (w : List ℕ) → ((B : ℕ) → B ∈ w → B < g.N → OfTree c κ g B (v B)) →
-      (f : Forest g w) × (cap (word_size c g v w) ≡ cap (forestCost c f))
-  unfolding word_size treeCost
-  figures-forest [] figure = (nil, refl)
-  figures-forest (s ∷ w) figure = go (dec_lt s g.N) (figures-forest w (λ B m lt. figure B (Memᴰ.tail m) lt))
+  figures_forest : (w : List ℕ) → ((B : ℕ) → B ∈ w → B < g.N → OfTree c κ g B (v B)) →
+      (f : Forest g w) × (cap (word_size c g v w) ≡ cap (forest_cost c f))
+  unfolding word_size tree_cost
+  figures_forest [] figure = (nil, refl)
+  figures_forest (s ∷ w) figure = go (dec_lt s g.N) (figures_forest w (λ B m lt. figure B (Memᴰ.tail m) lt))
     where
-      go : Dec (s < g.N) → (f : Forest g w) × (cap (word_size c g v w) ≡ cap (forestCost c f)) →
-          (f : Forest g (s ∷ w)) × (cap (symbolSize c g v s ⊕ word_size c g v w) ≡ cap (forestCost c f))
+      go : Dec (s < g.N) → (f : Forest g w) × (cap (word_size c g v w) ≡ cap (forest_cost c f)) →
+          (f : Forest g (s ∷ w)) × (cap (symbol_size c g v s ⊕ word_size c g v w) ≡ cap (forest_cost c f))
       go (yes lt) (f, e) =
           let (t, e') = figure s (Memᴰ.head refl) lt in
-          (child t f, cap-same κ (ap cap (symbol-nonterminal c g v s lt ∙ e') ∙ cap-cap κ (treeCost c t)) e)
-      go (no ge) (f, e) = let le : g.N ≤ s = omega arith in (leaf le f, cap-same κ (ap cap (symbol-terminal c g v s le)) e)
+          (child t f, cap_same κ (ap cap (symbol_nonterminal c g v s lt ∙ e') ∙ cap-cap κ (tree_cost c t)) e)
+      go (no ge) (f, e) = let le : g.N ≤ s = omega arith in (leaf le f, cap_same κ (ap cap (symbol_terminal c g v s le)) e)
 
-  pub rule-figure : {k A : ℕ} {w : List ℕ} → RuleAt g k A w → ((B : ℕ) → B ∈ w → B < g.N → OfTree c κ g B (v B)) →
+  pub rule_figure : {k A : ℕ} {w : List ℕ} → RuleAt g k A w → ((B : ℕ) → B ∈ w → B < g.N → OfTree c κ g B (v B)) →
       OfTree c κ g A (cap (once ⊕ word_size c g v w))
-  unfolding treeCost
-  rule-figure {k} {w = w} r figure = let (f, e) = figures-forest w figure in (node k r f, cap-same κ refl e)
+  unfolding tree_cost
+  rule_figure {k} {w = w} r figure = let (f, e) = figures_forest w figure in (node k r f, cap_same κ refl e)
 
   -- Has A: A has a figure, v(A). A rule whose nonterminals all have figures has one at its left side, and does not improve it.
   module _ (Has : ℕ → Type 0) where
-    pub rest-certificate : LeastsAtRest c κ g v Has → ((A : ℕ) → A < g.N → Has A) → CappedCertificate c κ g v
-    rest-certificate rest all = record {
+    pub rest_certificate : LeastsAtRest c κ g v Has → ((A : ℕ) → A < g.N → Has A) → CappedCertificate c κ g v
+    rest_certificate rest all = record {
       below = λ k A w r. (rest.quiet k A w r (λ B m lt. all B lt)).1;
       of_tree = λ A lt. rest.figure A lt (all A lt);
     }
@@ -85,45 +85,45 @@ module _ (c : Cost) (κ : Cap c) (g : Grammar) (v : ℕ → c.C) where
               has B m lt (yes h) = h
               has B m lt (no n') = absurd (none (B, lt, (m, n')))
 
-      pub no-figure-no-tree : (A : ℕ) → A < g.N → ¬ Has A → NoTree g A
-      no-figure-no-tree A lt n = record { nonterminal = lt; none = λ t. stuck-no-tree g (λ B. ¬ Has B) stuck n t }
+      pub no_figure_no_tree : (A : ℕ) → A < g.N → ¬ Has A → NoTree g A
+      no_figure_no_tree A lt n = record { nonterminal = lt; none = λ t. stuck_no_tree g (λ B. ¬ Has B) stuck n t }
 
-      pub figure-iff-tree : (A : ℕ) → A < g.N → Has A ↔ Tree g A
-      figure-iff-tree A lt = (λ h. (rest.figure A lt h).0, λ t. go t (has? A))
+      pub figure_iff_tree : (A : ℕ) → A < g.N → Has A ↔ Tree g A
+      figure_iff_tree A lt = (λ h. (rest.figure A lt h).0, λ t. go t (has? A))
         where
           go : Tree g A → Dec (Has A) → Has A
           go t (yes h) = h
-          go t (no n) = absurd ((no-figure-no-tree A lt n).none t)
+          go t (no n) = absurd ((no_figure_no_tree A lt n).none t)
 
   -- THE SAME FOR CONTEXTS. Has A: A has a context figure, u(A). A rule whose left side has one has one at each place that holds a
   -- nonterminal, and does not improve it.
   module _ (u : ℕ → C) (Has : ℕ → Type 0) where
-    pub rest-context-certificate : ContextsAtRest c κ g v u Has → ((A : ℕ) → A < g.N → Has A) → CappedContextCertificate c κ g v u
-    rest-context-certificate rest all = record {
-      at-start = rest.at-start;
+    pub rest_context_certificate : ContextsAtRest c κ g v u Has → ((A : ℕ) → A < g.N → Has A) → CappedContextCertificate c κ g v u
+    rest_context_certificate rest all = record {
+      at_start = rest.at_start;
       below = λ k B w i A r p lt. (rest.quiet k B w i A r (all B r.left) p lt).1;
-      of-open = λ A lt. rest.figure A lt (all A lt);
+      of_open = λ A lt. rest.figure A lt (all A lt);
     }
 
     -- Along an open tree each nonterminal, from the start to the open leaf, has a figure. Where all have trees, what is reached
     -- has an open tree; so it has a figure.
     module _ (trees : AllTrees g) (rest : ContextsAtRest c κ g v u Has) where
-      open-has : {A : ℕ} → Open g A → Has A
-      open-has root = rest.start
-      open-has (down {A} {B} {i} {w} k r t a) = (rest.quiet k B w i A r (open-has t) (gap-holds a) (gap-nonterminal a)).0
+      open_has : {A : ℕ} → Open g A → Has A
+      open_has root = rest.start
+      open_has (down {A} {B} {i} {w} k r t a) = (rest.quiet k B w i A r (open_has t) (gap_holds a) (gap_nonterminal a)).0
 
-      pub figure-iff-reached : (A : ℕ) → A < g.N → Has A ↔ Reached g A
-      figure-iff-reached A lt = (λ h. open-reached (rest.figure A lt h).0, λ z. open-has (reached-open trees z lt))
+      pub figure_iff_reached : (A : ℕ) → A < g.N → Has A ↔ Reached g A
+      figure_iff_reached A lt = (λ h. open_reached (rest.figure A lt h).0, λ z. open_has (reached_open trees z lt))
 
-      pub no-figure-unreached : (A : ℕ) → A < g.N → ¬ Has A → Unreached g A
-      no-figure-unreached A lt n = record { nonterminal = lt; never = λ z. n ((figure-iff-reached A lt).1 z) }
+      pub no_figure_unreached : (A : ℕ) → A < g.N → ¬ Has A → Unreached g A
+      no_figure_unreached A lt n = record { nonterminal = lt; never = λ z. n ((figure_iff_reached A lt).1 z) }
 
   -- what a rule and a place come to, where its left side has such a figure, is such a figure of what stands at the place
-  pub place-figure : CappedCertificate c κ g v → {k B : ℕ} {w : List ℕ} (i A : ℕ) → RuleAt g k B w → Holds w i A → A < g.N →
-      {y : C} → OfOpen c κ g B y → OfOpen c κ g A (cap (y ⊕ (once ⊕ othersSize c g v w i)))
-  unfolding openCost
-  place-figure cert {k} {B} {w} i A r p lt (t, e) =
-      let (x, leasts) = leasts-exist c g (certificate-trees c κ g v cert) in
-      let (a, e') = least-gap c g x leasts w i A lt p in
-      let beside = others-caps c κ g v x ((capped-certificate c κ g x leasts v).0 cert) w i ∙ ap cap (sym e') in
-      (down k r t a, cap-same κ (ap cap e ∙ cap-cap κ (openCost c t)) (cap-same κ {x = once} refl beside))
+  pub place_figure : CappedCertificate c κ g v → {k B : ℕ} {w : List ℕ} (i A : ℕ) → RuleAt g k B w → Holds w i A → A < g.N →
+      {y : C} → OfOpen c κ g B y → OfOpen c κ g A (cap (y ⊕ (once ⊕ others_size c g v w i)))
+  unfolding open_cost
+  place_figure cert {k} {B} {w} i A r p lt (t, e) =
+      let (x, leasts) = leasts_exist c g (certificate_trees c κ g v cert) in
+      let (a, e') = least_gap c g x leasts w i A lt p in
+      let beside = others_caps c κ g v x ((capped_certificate c κ g x leasts v).0 cert) w i ∙ ap cap (sym e') in
+      (down k r t a, cap_same κ (ap cap e ∙ cap-cap κ (open_cost c t)) (cap_same κ {x = once} refl beside))

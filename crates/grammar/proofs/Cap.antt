@@ -9,27 +9,27 @@ use Rattle.grammar.specs.Caps.{Cap, Limit}
 
 module _ {c : Cost} (κ : Cap c) where
   open c use {C, 𝟎, ◌⊕◌, ◌≼◌, unit, comm, mono}
-  open κ use {cap, cap-zero, cap-mono, cap-sum}
+  open κ use {cap, cap_zero, cap_mono, cap_sum}
 
   infixl 60 ◌⊕◌
   infix 40 ◌≼◌
   -- what is capped stays so
   pub cap-cap : (x : C) → cap (cap x) ≡ cap x
-  cap-cap x = cc (cap-sum 𝟎 x, cap-zero, unit x, unit (cap x))
+  cap-cap x = cc (cap_sum 𝟎 x, cap_zero, unit x, unit (cap x))
 
   -- the cap of a sum depends on the caps of its parts alone, and grows with them
-  pub cap-same : {x y z u : C} → cap x ≡ cap y → cap z ≡ cap u → cap (x ⊕ z) ≡ cap (y ⊕ u)
-  cap-same {x} {y} {z} {u} h k = cc (cap-sum x z, cap-sum y u)
+  pub cap_same : {x y z u : C} → cap x ≡ cap y → cap z ≡ cap u → cap (x ⊕ z) ≡ cap (y ⊕ u)
+  cap_same {x} {y} {z} {u} h k = cc (cap_sum x z, cap_sum y u)
 
-  pub cap-below : {x y z u : C} → cap x ≼ cap y → cap z ≼ cap u → cap (x ⊕ z) ≼ cap (y ⊕ u)
-  cap-below {x} {y} {z} {u} h k = rw (cap-sum x z, cap-sum y u) (cap-mono (mono h k))
+  pub cap_below : {x y z u : C} → cap x ≼ cap y → cap z ≼ cap u → cap (x ⊕ z) ≼ cap (y ⊕ u)
+  cap_below {x} {y} {z} {u} h k = rw (cap_sum x z, cap_sum y u) (cap_mono (mono h k))
 
   -- the parts of a sum that is not over are not over
   module _ (limit : Limit c κ) where
-    open limit use {Over, over-sum}
+    open limit use {Over, over_sum}
 
     pub part_left : {x y : C} → ¬ Over (x ⊕ y) → ¬ Over x
-    part_left {x} {y} n h = n (over-sum x y h)
+    part_left {x} {y} n h = n (over_sum x y h)
 
     pub part_right : {x y : C} → ¬ Over (x ⊕ y) → ¬ Over y
-    part_right {x} {y} n h = n (rw (comm x y) (over-sum y x h))
+    part_right {x} {y} n h = n (rw (comm x y) (over_sum y x h))

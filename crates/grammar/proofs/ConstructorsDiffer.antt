@@ -7,11 +7,11 @@ use mathlib.Core.Path.{◌≡◌, sym}
 use mathlib.Core.Option.{some, none}
 use Rattle.grammar.specs.Words.{reads, faults}
 
-pub reads-not-faults : {A : Type 0} {x : A} {p : ℕ} → reads x ≡ faults p → ⊥
-reads-not-faults e = let z : ◌≡◌ {A = ℕ} 0 1 = cc in omega arith
+pub reads_not_faults : {A : Type 0} {x : A} {p : ℕ} → reads x ≡ faults p → ⊥
+reads_not_faults e = let z : ◌≡◌ {A = ℕ} 0 1 = cc in omega arith
 
-pub faults-not-reads : {A : Type 0} {x : A} {p : ℕ} → faults p ≡ reads x → ⊥
-faults-not-reads e = reads-not-faults (sym e)
+pub faults_not_reads : {A : Type 0} {x : A} {p : ℕ} → faults p ≡ reads x → ⊥
+faults_not_reads e = reads_not_faults (sym e)
 
-pub none-not-some : {A : Type 0} {x : A} → none ≡ some x → ⊥
-none-not-some e = let z : ◌≡◌ {A = ℕ} 0 1 = cc in omega arith
+pub none_not_some : {A : Type 0} {x : A} → none ≡ some x → ⊥
+none_not_some e = let z : ◌≡◌ {A = ℕ} 0 1 = cc in omega arith

@@ -14,25 +14,25 @@ use mathlib.Core.Path.{◌≡◌, refl, sym}
 use mathlib.Core.Logic.{◌↔◌}
 use mathlib.Core.List.{List, [], ◌∷◌}
 use Rattle.grammar.specs.Words.{Grammar, RuleAt}
-use Rattle.grammar.specs.Tree.{Gap, here, past-leaf, past-child, Open, root, down}
-use Rattle.grammar.specs.Measure.{Cost, gapCost, openCost}
-use Rattle.grammar.specs.Least.{Beside, at_place, past-terminal, past-nonterminal, Candidate}
-use Rattle.grammar.proofs.ConstructorsDiffer.{none-not-some}
+use Rattle.grammar.specs.Tree.{Gap, here, past_leaf, past_child, Open, root, down}
+use Rattle.grammar.specs.Measure.{Cost, gap_cost, open_cost}
+use Rattle.grammar.specs.Least.{Beside, at_place, past_terminal, past_nonterminal, Candidate}
+use Rattle.grammar.proofs.ConstructorsDiffer.{none_not_some}
 use Rattle.grammar.proofs.BySize.{by_size}
-use Rattle.grammar.proofs.CostOrder.{le_of_eq, rank-of-context}
+use Rattle.grammar.proofs.CostOrder.{le_of_eq, rank_of_context}
 use Rattle.grammar.proofs.OpenEach.{CarriesGap, gap_of}
-use Rattle.grammar.proofs.SameListing.{tree-nonterminal}
-use Rattle.grammar.proofs.Dead.{gap-nonterminal}
-use Rattle.grammar.specs.Certificates.{symbolSize, Leasts}
-use Rattle.grammar.specs.Certificates.{Holds, othersSize, Attained, ContextCertificate, Contexts}
-use Rattle.grammar.proofs.Certificate.{symbol-nonterminal, symbol-terminal}
-use Rattle.grammar.proofs.Certificate.{CostsFigure, CostsSizes, costs-carry, word-sizes, forest-least}
+use Rattle.grammar.proofs.SameListing.{tree_nonterminal}
+use Rattle.grammar.proofs.Dead.{gap_nonterminal}
+use Rattle.grammar.specs.Certificates.{symbol_size, Leasts}
+use Rattle.grammar.specs.Certificates.{Holds, others_size, Attained, ContextCertificate, Contexts}
+use Rattle.grammar.proofs.Certificate.{symbol_nonterminal, symbol_terminal}
+use Rattle.grammar.proofs.Certificate.{CostsFigure, CostsSizes, costs_carry, word_sizes, forest_least}
 
 -- a gap at place i of w, for A, is where w holds A
-pub gap-holds : {g : Grammar} {w : List ℕ} {i A : ℕ} → Gap g w i A → Holds w i A
-gap-holds (here p f) = refl
-gap-holds (past-leaf p a) = gap-holds a
-gap-holds (past-child t a) = gap-holds a
+pub gap_holds : {g : Grammar} {w : List ℕ} {i A : ℕ} → Gap g w i A → Holds w i A
+gap_holds (here p f) = refl
+gap_holds (past_leaf p a) = gap_holds a
+gap_holds (past_child t a) = gap_holds a
 
 module _ (c : Cost) (g : Grammar) (v : ℕ → c.C) where
   open c use {C, 𝟎, ◌⊕◌, ◌≼◌, once, le_refl, le_trans, le_antisym, least, mono, rank}
@@ -41,112 +41,112 @@ module _ (c : Cost) (g : Grammar) (v : ℕ → c.C) where
   infix 40 ◌≼◌
   -- trees that cost their figures leave a gap that costs the sizes of the other symbols
   abbrev CostsOthers : (w : List ℕ) (i A : ℕ) → Gap g w i A → Type 0
-  CostsOthers w i A a = gapCost c a ≡ othersSize c g v w i
+  CostsOthers w i A a = gap_cost c a ≡ others_size c g v w i
 
-  gap-costs-carry : CarriesGap (CostsFigure c g v) (CostsSizes c g v) CostsOthers
-  unfolding othersSize gapCost
-  gap-costs-carry = record {
+  gap_costs_carry : CarriesGap (CostsFigure c g v) (CostsSizes c g v) CostsOthers
+  unfolding others_size gap_cost
+  gap_costs_carry = record {
     at_here = λ A w p f e. e;
-    at-past-leaf = λ s i A w p a e. let e₁ = symbol-terminal c g v s p in cc;
-    at-past-child = λ s i A w t a e e'. let e₁ = symbol-nonterminal c g v s (tree-nonterminal t) in cc;
+    at_past_leaf = λ s i A w p a e. let e₁ = symbol_terminal c g v s p in cc;
+    at_past_child = λ s i A w t a e e'. let e₁ = symbol_nonterminal c g v s (tree_nonterminal t) in cc;
   }
 
   module _ (leasts : Leasts c g v) where
     -- what stands beside a gap costs at least the sizes of the other symbols
-    pub gap-above : {w : List ℕ} {i A : ℕ} (a : Gap g w i A) → othersSize c g v w i ≼ gapCost c a
-    unfolding othersSize gapCost
-    gap-above (here p f) = forest-least c g v leasts f
-    gap-above (past-leaf {s} p a) = mono (le_of_eq c (symbol-terminal c g v s p)) (gap-above a)
-    gap-above (past-child {s} t a) =
-        let lt = tree-nonterminal t in
-        mono (le_trans (le_of_eq c (symbol-nonterminal c g v s lt)) ((leasts s lt).smallest t)) (gap-above a)
+    pub gap_above : {w : List ℕ} {i A : ℕ} (a : Gap g w i A) → others_size c g v w i ≼ gap_cost c a
+    unfolding others_size gap_cost
+    gap_above (here p f) = forest_least c g v leasts f
+    gap_above (past_leaf {s} p a) = mono (le_of_eq c (symbol_terminal c g v s p)) (gap_above a)
+    gap_above (past_child {s} t a) =
+        let lt = tree_nonterminal t in
+        mono (le_trans (le_of_eq c (symbol_nonterminal c g v s lt)) ((leasts s lt).smallest t)) (gap_above a)
 
     -- and wherever w holds a nonterminal there is a gap with just that cost
-    pub least-gap : (w : List ℕ) (i A : ℕ) → A < g.N → Holds w i A → (a : Gap g w i A) × (gapCost c a ≡ othersSize c g v w i)
-    least-gap = gap_of (costs-carry c g v) gap-costs-carry (λ A lt. ((leasts A lt).tree, (leasts A lt).costs))
+    pub least_gap : (w : List ℕ) (i A : ℕ) → A < g.N → Holds w i A → (a : Gap g w i A) × (gap_cost c a ≡ others_size c g v w i)
+    least_gap = gap_of (costs_carry c g v) gap_costs_carry (λ A lt. ((leasts A lt).tree, (leasts A lt).costs))
 
     -- in the terms of specs/Least
-    pub others-beside : (w : List ℕ) (i A : ℕ) → A < g.N → Holds w i A → Beside c g w i A (othersSize c g v w i)
-    unfolding othersSize
-    others-beside [] i A lt h = absurd (none-not-some h)
-    others-beside (s ∷ w) zero A lt h = let e : s ≡ A = cc in rw e (at_place lt (word-sizes c g v leasts w))
-    others-beside (s ∷ w) (suc i) A lt h = go (dec_lt s g.N) (others-beside w i A lt h)
+    pub others_beside : (w : List ℕ) (i A : ℕ) → A < g.N → Holds w i A → Beside c g w i A (others_size c g v w i)
+    unfolding others_size
+    others_beside [] i A lt h = absurd (none_not_some h)
+    others_beside (s ∷ w) zero A lt h = let e : s ≡ A = cc in rw e (at_place lt (word_sizes c g v leasts w))
+    others_beside (s ∷ w) (suc i) A lt h = go (dec_lt s g.N) (others_beside w i A lt h)
       where
-        go : Dec (s < g.N) → Beside c g w i A (othersSize c g v w i) →
-            Beside c g (s ∷ w) (suc i) A (symbolSize c g v s ⊕ othersSize c g v w i)
-        go (yes l) b = rw (symbol-nonterminal c g v s l) (past-nonterminal l (leasts s l) b)
-        go (no ge) b = let le : g.N ≤ s = omega arith in rw (symbol-terminal c g v s le) (past-terminal le b)
+        go : Dec (s < g.N) → Beside c g w i A (others_size c g v w i) →
+            Beside c g (s ∷ w) (suc i) A (symbol_size c g v s ⊕ others_size c g v w i)
+        go (yes l) b = rw (symbol_nonterminal c g v s l) (past_nonterminal l (leasts s l) b)
+        go (no ge) b = let le : g.N ≤ s = omega arith in rw (symbol_terminal c g v s le) (past_terminal le b)
 
     module _ (u : ℕ → C) (cert : ContextCertificate c g v u) where
-      open_above : {A : ℕ} (x : Open g A) → u A ≼ openCost c x
-      unfolding openCost
-      open_above root = le_of_eq c cert.at-start
+      open_above : {A : ℕ} (x : Open g A) → u A ≼ open_cost c x
+      unfolding open_cost
+      open_above root = le_of_eq c cert.at_start
       open_above (down {A} {B} {i} {w} k r x a) =
-          le_trans (cert.below k B w i A r (gap-holds a) (gap-nonterminal a))
-          (mono (open_above x) (mono (le_refl once) (gap-above a)))
+          le_trans (cert.below k B w i A r (gap_holds a) (gap_nonterminal a))
+          (mono (open_above x) (mono (le_refl once) (gap_above a)))
 
-      attaining-open : (A : ℕ) → A < g.N → (x : Open g A) × (openCost c x ≡ u A)
-      unfolding openCost
-      attaining-open =
-          by_size (λ A. rank (u A)) (λ A. A < g.N → (x : Open g A) × (openCost c x ≡ u A))
+      attaining_open : (A : ℕ) → A < g.N → (x : Open g A) × (open_cost c x ≡ u A)
+      unfolding open_cost
+      attaining_open =
+          by_size (λ A. rank (u A)) (λ A. A < g.N → (x : Open g A) × (open_cost c x ≡ u A))
           (λ A lower lt. go A lt lower (ℕ_discrete A g.start))
         where
           go : (A : ℕ) → A < g.N →
-              ((B : ℕ) → rank (u B) < rank (u A) → B < g.N → (x : Open g B) × (openCost c x ≡ u B)) → Dec (A ≡ g.start) →
-              (x : Open g A) × (openCost c x ≡ u A)
-          go A lt lower (yes e) = rw e (root, sym cert.at-start)
+              ((B : ℕ) → rank (u B) < rank (u A) → B < g.N → (x : Open g B) × (open_cost c x ≡ u B)) → Dec (A ≡ g.start) →
+              (x : Open g A) × (open_cost c x ≡ u A)
+          go A lt lower (yes e) = rw e (root, sym cert.at_start)
           go A lt lower (no d) =
               let (k, B, w, i, r, p, e) = cert.attained A lt d in
-              let (x, e₁) = lower B (rank-of-context c e) r.left in
-              let (a, e₂) = least-gap w i A lt p in
+              let (x, e₁) = lower B (rank_of_context c e) r.left in
+              let (a, e₂) = least_gap w i A lt p in
               (down k r x a, cc)
 
       certified : Contexts c g v u
-      certified A lt = let (x, e) = attaining-open A lt in record { tree = x; costs = e; smallest = open_above }
+      certified A lt = let (x, e) = attaining_open A lt in record { tree = x; costs = e; smallest = open_above }
 
     module _ (u : ℕ → C) (within : g.start < g.N) (contexts : Contexts c g v u) where
-      start-zero : u g.start ≡ 𝟎
-      unfolding openCost
-      start-zero = le_antisym ((contexts g.start within).smallest root) (least (u g.start))
+      start_zero : u g.start ≡ 𝟎
+      unfolding open_cost
+      start_zero = le_antisym ((contexts g.start within).smallest root) (least (u g.start))
 
-      place-above : (k B : ℕ) (w : List ℕ) (i A : ℕ) → RuleAt g k B w → Holds w i A → A < g.N →
-          u A ≼ u B ⊕ (once ⊕ othersSize c g v w i)
-      unfolding openCost
-      place-above k B w i A r p lt =
-          let (a, e) = least-gap w i A lt p in
+      place_above : (k B : ℕ) (w : List ℕ) (i A : ℕ) → RuleAt g k B w → Holds w i A → A < g.N →
+          u A ≼ u B ⊕ (once ⊕ others_size c g v w i)
+      unfolding open_cost
+      place_above k B w i A r p lt =
+          let (a, e) = least_gap w i A lt p in
           let z = contexts B r.left in
           let e' = z.costs in
           le_trans ((contexts A lt).smallest (down k r z.tree a)) (le_of_eq c cc)
 
-      last-attains : {A : ℕ} (x : Open g A) → openCost c x ≡ u A → ¬ (A ≡ g.start) → Attained c g v u A
-      unfolding openCost
-      last-attains root e d = absurd (d refl)
-      last-attains (down {A} {B} {i} {w} k r x a) e d =
-          let above = place-above k B w i A r (gap-holds a) (gap-nonterminal a) in
-          let parts = mono ((contexts B r.left).smallest x) (mono (le_refl once) (gap-above a)) in
-          (k, B, w, i, r, gap-holds a, le_antisym above (le_trans parts (le_of_eq c e)))
+      last_attains : {A : ℕ} (x : Open g A) → open_cost c x ≡ u A → ¬ (A ≡ g.start) → Attained c g v u A
+      unfolding open_cost
+      last_attains root e d = absurd (d refl)
+      last_attains (down {A} {B} {i} {w} k r x a) e d =
+          let above = place_above k B w i A r (gap_holds a) (gap_nonterminal a) in
+          let parts = mono ((contexts B r.left).smallest x) (mono (le_refl once) (gap_above a)) in
+          (k, B, w, i, r, gap_holds a, le_antisym above (le_trans parts (le_of_eq c e)))
 
       certifies : ContextCertificate c g v u
       certifies = record {
-        at-start = start-zero;
-        below = place-above;
-        attained = λ A lt d. last-attains (contexts A lt).tree (contexts A lt).costs d;
+        at_start = start_zero;
+        below = place_above;
+        attained = λ A lt d. last_attains (contexts A lt).tree (contexts A lt).costs d;
       }
 
       -- what a rule and a place come to
       pub candidate : (k B : ℕ) (w : List ℕ) (i A : ℕ) → RuleAt g k B w → Holds w i A → A < g.N →
-          Candidate c g A k i (u B ⊕ (once ⊕ othersSize c g v w i))
+          Candidate c g A k i (u B ⊕ (once ⊕ others_size c g v w i))
       candidate k B w i A r p lt = record {
         B = B;
         w = w;
         rule = r;
         outer = u B;
         context = contexts B r.left;
-        others = othersSize c g v w i;
-        beside = others-beside w i A lt p;
+        others = others_size c g v w i;
+        beside = others_beside w i A lt p;
         is = refl;
       }
 
     -- THE CERTIFICATE: figures pass the local tests exactly where they are the contexts
-    pub context-certificate : (u : ℕ → C) → g.start < g.N → ContextCertificate c g v u ↔ Contexts c g v u
-    context-certificate u within = (certified u, certifies u within)
+    pub context_certificate : (u : ℕ → C) → g.start < g.N → ContextCertificate c g v u ↔ Contexts c g v u
+    context_certificate u within = (certified u, certifies u within)

@@ -15,31 +15,31 @@ use mathlib.Core.List.{List, [], ◌∷◌}
 use lib.ListN.{length, get_or}
 use Rattle.grammar.specs.Words.{Grammar, RuleAt, R}
 use Rattle.grammar.specs.Tree.{Open, root, down, ◌∈◌}
-use Rattle.grammar.specs.Measure.{Cost, gapCost, openCost}
+use Rattle.grammar.specs.Measure.{Cost, gap_cost, open_cost}
 use Rattle.grammar.specs.Least.{Context}
 use Rattle.grammar.specs.Refusals.{Reached, AllReached}
-use Rattle.grammar.proofs.RuleNumbers.{rule-left, rule-right, rule-below, rule-number, RuleOrNone, rule?}
-use Rattle.grammar.proofs.CostOrder.{le_of_eq, at-most-left}
+use Rattle.grammar.proofs.RuleNumbers.{rule_left, rule_right, rule_below, rule_number, RuleOrNone, rule?}
+use Rattle.grammar.proofs.CostOrder.{le_of_eq, at_most_left}
 use Rattle.grammar.proofs.Places.{ElementOrNone, element?, place_of}
-use Rattle.grammar.specs.Certificates.{Holds, Closed, Leasts, othersSize, Contexts}
+use Rattle.grammar.specs.Certificates.{Holds, Closed, Leasts, others_size, Contexts}
 use Rattle.grammar.proofs.Totals.{context-start}
-use Rattle.grammar.proofs.Dead.{closed-reached, gap-nonterminal, open-reached}
-use Rattle.grammar.proofs.Search.{member?, upto, in-upto, Except, except, Smallest, NoOffer, Best, smallest}
-use Rattle.grammar.proofs.Settles.{Settled, Made, Halt, settles, settled-or-left}
-use Rattle.grammar.proofs.ContextCertificate.{gap-holds, gap-above, least-gap}
+use Rattle.grammar.proofs.Dead.{closed_reached, gap_nonterminal, open_reached}
+use Rattle.grammar.proofs.Search.{member?, upto, in_upto, Except, except, Smallest, NoOffer, Best, smallest}
+use Rattle.grammar.proofs.Settles.{Settled, Made, Halt, settles, settled_or_left}
+use Rattle.grammar.proofs.ContextCertificate.{gap_holds, gap_above, least_gap}
 
 -- a place that holds a symbol is below the length
-pub holds-below : (w : List ℕ) (i A : ℕ) → Holds w i A → i < length w
-holds-below w i A h = rule-below w i A h
+pub holds_below : (w : List ℕ) (i A : ℕ) → Holds w i A → i < length w
+holds_below w i A h = rule_below w i A h
 
 -- and what symbols hold at a place below their number is the symbol there, as a slice is read
-pub holds-there : (w : List ℕ) (i : ℕ) → i < length w → Holds w i (get_or w i 0)
-holds-there [] i h = absurd (omega arith)
-holds-there (s ∷ w) zero h = refl
-holds-there (s ∷ w) (suc i) h = holds-there w i (omega arith)
+pub holds_there : (w : List ℕ) (i : ℕ) → i < length w → Holds w i (get_or w i 0)
+holds_there [] i h = absurd (omega arith)
+holds_there (s ∷ w) zero h = refl
+holds_there (s ∷ w) (suc i) h = holds_there w i (omega arith)
 
-pub held-there : (w : List ℕ) (i A : ℕ) → Holds w i A → get_or w i 0 ≡ A
-held-there w i A h = cc (holds-there w i (holds-below w i A h))
+pub held_there : (w : List ℕ) (i A : ℕ) → Holds w i A → get_or w i 0 ≡ A
+held_there w i A h = cc (holds_there w i (holds_below w i A h))
 
 module _ (c : Cost) (g : Grammar) (v : ℕ → c.C) (leasts : Leasts c g v) where
   open c use {C, 𝟎, ◌⊕◌, ◌≼◌, once, le_refl, le_trans, mono}
@@ -61,7 +61,7 @@ module _ (c : Cost) (g : Grammar) (v : ℕ → c.C) (leasts : Leasts c g v) wher
   record AtPlace (B : ℕ) (w : List ℕ) (todo : List ℕ) (state : State todo) (i A : ℕ) (x : C) : Type 0 where
     holds : Holds w i A
     below : A < g.N
-    is : x ≡ state.figures B ⊕ (once ⊕ othersSize c g v w i)
+    is : x ≡ state.figures B ⊕ (once ⊕ others_size c g v w i)
 
   -- rule k of a settled B does so at some place
   record Offer (todo : List ℕ) (state : State todo) (k A : ℕ) (x : C) : Type 0 where
@@ -80,8 +80,8 @@ module _ (c : Cost) (g : Grammar) (v : ℕ → c.C) (leasts : Leasts c g v) wher
   Offered todo state k x = Made c g.N others.list (Context c g) Offer (R g) todo state k x
 
   module _ (todo : List ℕ) (state : State todo) where
-    best-at : (B : ℕ) (w : List ℕ) (i : ℕ) → Best c (PlaceOffers B w todo state i)
-    best-at B w i = go (element? w i)
+    best_at : (B : ℕ) (w : List ℕ) (i : ℕ) → Best c (PlaceOffers B w todo state i)
+    best_at B w i = go (element? w i)
       where
         go : ElementOrNone w i → Best c (PlaceOffers B w todo state i)
         go (inr no_one) = inr (λ y o. no_one o.to o.offer.holds)
@@ -93,7 +93,7 @@ module _ (c : Cost) (g : Grammar) (v : ℕ → c.C) (leasts : Leasts c g v) wher
             pick : Dec (A < g.N) → Dec (A ∈ todo) → Best c (PlaceOffers B w todo state i)
             pick (yes lt) (yes m) =
                 inl (
-                  state.figures B ⊕ (once ⊕ othersSize c g v w i),
+                  state.figures B ⊕ (once ⊕ others_size c g v w i),
                   record { to = A; unsettled = m; offer = record { holds = h; below = lt; is = refl } },
                   λ y o. le_of_eq c (sym o.offer.is),
                 )
@@ -105,20 +105,20 @@ module _ (c : Cost) (g : Grammar) (v : ℕ → c.C) (leasts : Leasts c g v) wher
       where
         go : RuleOrNone g k → Best c (Offered todo state k)
         go (inr no_one) = inr (λ y o. no_one o.offer.B o.offer.w o.offer.rule)
-        go (inl (B, w, r)) = pick (member? B todo) (smallest c (PlaceOffers B w todo state) (best-at B w) (length w))
+        go (inl (B, w, r)) = pick (member? B todo) (smallest c (PlaceOffers B w todo state) (best_at B w) (length w))
           where
             by_place : {y : C} (o : Offered todo state k y) → PlaceOffers B w todo state o.offer.i y
             by_place o =
-                let e : o.offer.B ≡ B = rule-left refl o.offer.rule r in
-                let e' : o.offer.w ≡ w = rule-right refl o.offer.rule r in
+                let e : o.offer.B ≡ B = rule_left refl o.offer.rule r in
+                let e' : o.offer.w ≡ w = rule_right refl o.offer.rule r in
                 record { to = o.to; unsettled = o.unsettled; offer = rw (e, e') at o.offer.place }
 
-            in-range : {y : C} (o : Offered todo state k y) → o.offer.i < length w
-            in-range o = holds-below w o.offer.i o.to (by_place o).offer.holds
+            in_range : {y : C} (o : Offered todo state k y) → o.offer.i < length w
+            in_range o = holds_below w o.offer.i o.to (by_place o).offer.holds
 
             pick : Dec (B ∈ todo) → Smallest c (PlaceOffers B w todo state) (length w) ⊎
                 NoOffer c (PlaceOffers B w todo state) (length w) → Best c (Offered todo state k)
-            pick (yes m) h = inr (λ y o. o.offer.settled (rw (rule-left refl r o.offer.rule) at m))
+            pick (yes m) h = inr (λ y o. o.offer.settled (rw (rule_left refl r o.offer.rule) at m))
             pick (no n) (inl s) =
                 let a = s.offers in
                 inl (
@@ -128,12 +128,12 @@ module _ (c : Cost) (g : Grammar) (v : ℕ → c.C) (leasts : Leasts c g v) wher
                     unsettled = a.unsettled;
                     offer = record { B = B; w = w; rule = r; settled = n; i = s.who; place = a.offer };
                   },
-                  λ y o. s.below o.offer.i y (in-range o) (by_place o),
+                  λ y o. s.below o.offer.i y (in_range o) (by_place o),
                 )
-            pick (no n) (inr no_one) = inr (λ y o. no_one o.offer.i y (in-range o) (by_place o))
+            pick (no n) (inr no_one) = inr (λ y o. no_one o.offer.i y (in_range o) (by_place o))
 
     offers : {k B A : ℕ} {w : List ℕ} (i : ℕ) → RuleAt g k B w → ¬ (B ∈ todo) → Holds w i A → A < g.N → A ∈ todo →
-        Offered todo state k (state.figures B ⊕ (once ⊕ othersSize c g v w i))
+        Offered todo state k (state.figures B ⊕ (once ⊕ others_size c g v w i))
     offers {B = B} {A = A} {w = w} i r n h lt m = record {
       to = A;
       unsettled = m;
@@ -142,24 +142,24 @@ module _ (c : Cost) (g : Grammar) (v : ℕ → c.C) (leasts : Leasts c g v) wher
 
     module _ (s : Smallest c (Offered todo state) (R g)) where
       -- an open tree of an unsettled nonterminal costs at least the smallest offer
-      smallest-below : {A : ℕ} (x : Open g A) → A ∈ todo → s.cost ≼ openCost c x
-      unfolding openCost
+      smallest-below : {A : ℕ} (x : Open g A) → A ∈ todo → s.cost ≼ open_cost c x
+      unfolding open_cost
       smallest-below root m = absurd (not_start state m)
       smallest-below (down {A} {B} {i} {w} k r x a) m = go (member? B todo) (λ m'. smallest-below x m')
         where
-          go : Dec (B ∈ todo) → (B ∈ todo → s.cost ≼ openCost c x) → s.cost ≼ openCost c x ⊕ (once ⊕ gapCost c a)
-          go (yes m') above = le_trans (above m') (at-most-left c)
+          go : Dec (B ∈ todo) → (B ∈ todo → s.cost ≼ open_cost c x) → s.cost ≼ open_cost c x ⊕ (once ⊕ gap_cost c a)
+          go (yes m') above = le_trans (above m') (at_most_left c)
           go (no n) above =
-              le_trans (s.below k _ (rule-number r) (offers i r n (gap-holds a) (gap-nonterminal a) m))
-              (mono ((state.right B r.left n).smallest x) (mono (le_refl once) (gap-above c g v leasts a)))
+              le_trans (s.below k _ (rule_number r) (offers i r n (gap_holds a) (gap_nonterminal a) m))
+              (mono ((state.right B r.left n).smallest x) (mono (le_refl once) (gap_above c g v leasts a)))
 
       -- and the rule that makes it attains it, beside least trees
       smallest-right : Context c g s.offers.to s.cost
-      unfolding openCost
+      unfolding open_cost
       smallest-right =
           let o = s.offers.offer in
           let p = o.place in
-          let (a, e) = least-gap c g v leasts o.w o.i s.offers.to p.below p.holds in
+          let (a, e) = least_gap c g v leasts o.w o.i s.offers.to p.below p.holds in
           let z = state.right o.B o.rule.left o.settled in
           let e₁ = z.costs in
           let e₂ = p.is in
@@ -170,35 +170,35 @@ module _ (c : Cost) (g : Grammar) (v : ℕ → c.C) (leasts : Leasts c g v) wher
           }
 
     -- with no offer the settled ones are closed
-    no-offer-closed : NoOffer c (Offered todo state) (R g) → Closed g (λ A. ¬ (A ∈ todo))
-    no-offer-closed no-offer = record {
+    no_offer_closed : NoOffer c (Offered todo state) (R g) → Closed g (λ A. ¬ (A ∈ todo))
+    no_offer_closed no_offer = record {
       start = not_start state;
-      names = λ k B w A r n m lt h. let (i, at) = place_of w A m in no-offer k _ (rule-number r) (offers i r n at lt h);
+      names = λ k B w A r n m lt h. let (i, at) = place_of w A m in no_offer k _ (rule_number r) (offers i r n at lt h);
     }
 
   -- the start is settled by 𝟎, before any offer
-  start-settled : State others.list
-  start-settled = record { figures = λ A. 𝟎; among = λ A m. m; right = λ A lt n. only A lt n (ℕ_discrete A g.start) }
+  start_settled : State others.list
+  start_settled = record { figures = λ A. 𝟎; among = λ A m. m; right = λ A lt n. only A lt n (ℕ_discrete A g.start) }
     where
       only : (A : ℕ) → A < g.N → ¬ (A ∈ others.list) → Dec (A ≡ g.start) → Context c g A 𝟎
       only A lt n (yes e) = rw e (context-start c)
-      only A lt n (no d) = absurd (n (others.kept A (in-upto g.N A lt) d))
+      only A lt n (no d) = absurd (n (others.kept A (in_upto g.N A lt) d))
 
   halt : Halt c g.N others.list (Context c g) Offer (R g)
-  halt = settles c g.N others.list (Context c g) Offer (R g) (record { best = best; meets = smallest-right }) start-settled
+  halt = settles c g.N others.list (Context c g) Offer (R g) (record { best = best; meets = smallest-right }) start_settled
 
-  left-unreached : (A : ℕ) → A ∈ halt.todo → A < g.N → ¬ Reached g A
-  left-unreached A m lt r =
-      closed-reached g (λ B. ¬ (B ∈ halt.todo)) (no-offer-closed halt.todo halt.state halt.no-offer) r lt m
+  left_unreached : (A : ℕ) → A ∈ halt.todo → A < g.N → ¬ Reached g A
+  left_unreached A m lt r =
+      closed_reached g (λ B. ¬ (B ∈ halt.todo)) (no_offer_closed halt.todo halt.state halt.no_offer) r lt m
 
   -- DECIDED: whether a nonterminal is reached
   pub reached? : (A : ℕ) → A < g.N → Reached g A ⊎ ¬ Reached g A
-  reached? A lt = go (settled-or-left c g.N others.list (Context c g) Offer (R g) halt A lt)
+  reached? A lt = go (settled_or_left c g.N others.list (Context c g) Offer (R g) halt A lt)
     where
       go : Context c g A (halt.state.figures A) ⊎ A ∈ halt.todo → Reached g A ⊎ ¬ Reached g A
-      go (inl context) = inl (open-reached context.tree)
-      go (inr m) = inr (left-unreached A m lt)
+      go (inl context) = inl (open_reached context.tree)
+      go (inr m) = inr (left_unreached A m lt)
 
   -- CONTEXTS EXIST where all are reached
-  pub contexts-exist : AllReached g → (u : ℕ → C) × Contexts c g v u
-  contexts-exist reached = (halt.state.figures, λ A lt. halt.state.right A lt (λ m. left-unreached A m lt (reached A lt)))
+  pub contexts_exist : AllReached g → (u : ℕ → C) × Contexts c g v u
+  contexts_exist reached = (halt.state.figures, λ A lt. halt.state.right A lt (λ m. left_unreached A m lt (reached A lt)))

@@ -9,10 +9,10 @@ use mathlib.Core.Logic.{◌⊎◌, inl, inr}
 use mathlib.Core.List.Memᴰ
 use mathlib.Core.List.{List, ◌∷◌}
 use Rattle.grammar.specs.Words.{Grammar, RuleAt}
-use Rattle.grammar.specs.Tree.{Tree, Forest, node, nil, leaf, child, Gap, here, past-leaf, past-child, Open, root, down}
+use Rattle.grammar.specs.Tree.{Tree, Forest, node, nil, leaf, child, Gap, here, past_leaf, past_child, Open, root, down}
 use Rattle.grammar.specs.Tree.{fill, plug, derivation, derivations, Uses, ◌∈◌}
-use Rattle.grammar.specs.Measure.{Cost, treeCost, forestCost, gapCost, openCost}
-use Rattle.grammar.proofs.SameListing.{tree-nonterminal}
+use Rattle.grammar.specs.Measure.{Cost, tree_cost, forest_cost, gap_cost, open_cost}
+use Rattle.grammar.proofs.SameListing.{tree_nonterminal}
 
 -- the tree t of the start is an open tree, `outer`, with a node of rule k over a forest, `inner`, at its leaf
 pub record Cut (g : Grammar) (k : ℕ) (t : Tree g g.start) : Type 0 where
@@ -36,39 +36,39 @@ module _ (g : Grammar) (k : ℕ) where
   unfolding plug
   under {j} r x = record { whole = λ f. plug x (node j r f); opened = λ i B a. down j r x a; agrees = λ i B a t. refl }
 
-  after-leaf : {s : ℕ} {w : List ℕ} → g.N ≤ s → Around (s ∷ w) → Around w
+  after_leaf : {s : ℕ} {w : List ℕ} → g.N ≤ s → Around (s ∷ w) → Around w
   unfolding fill
-  after-leaf p z = record {
+  after_leaf p z = record {
     whole = λ f. z.whole (leaf p f);
-    opened = λ i B a. z.opened (suc i) B (past-leaf p a);
-    agrees = λ i B a t. z.agrees (suc i) B (past-leaf p a) t;
+    opened = λ i B a. z.opened (suc i) B (past_leaf p a);
+    agrees = λ i B a t. z.agrees (suc i) B (past_leaf p a) t;
   }
 
-  after-child : {s : ℕ} {w : List ℕ} → Tree g s → Around (s ∷ w) → Around w
+  after_child : {s : ℕ} {w : List ℕ} → Tree g s → Around (s ∷ w) → Around w
   unfolding fill
-  after-child u z = record {
+  after_child u z = record {
     whole = λ f. z.whole (child u f);
-    opened = λ i B a. z.opened (suc i) B (past-child u a);
-    agrees = λ i B a t. z.agrees (suc i) B (past-child u a) t;
+    opened = λ i B a. z.opened (suc i) B (past_child u a);
+    agrees = λ i B a t. z.agrees (suc i) B (past_child u a) t;
   }
 
   mutual
-    unfolding plug fill under after-leaf after-child
+    unfolding plug fill under after_leaf after_child
 
-    cut-tree : {A : ℕ} (t : Tree g A) (x : Open g A) → Uses k t → Cut g k (plug x t)
-    cut-tree (node {A} {w} j r f) x m = go (λ m'. cut-forest f (under r x) m') (Memᴰ.cases_cons m)
+    cut_tree : {A : ℕ} (t : Tree g A) (x : Open g A) → Uses k t → Cut g k (plug x t)
+    cut_tree (node {A} {w} j r f) x m = go (λ m'. cut_forest f (under r x) m') (Memᴰ.cases_cons m)
       where
         go : (k ∈ derivations f → Cut g k (plug x (node j r f))) → (k ≡ j) ⊎ k ∈ derivations f → Cut g k (plug x (node j r f))
         go below (inl e) = record { j = j; B = A; w = w; same = e; rule = r; outer = x; inner = f; whole = refl }
         go below (inr m') = below m'
 
-    cut-forest : {w : List ℕ} (f : Forest g w) (z : Around w) → k ∈ derivations f → Cut g k (z.whole f)
-    cut-forest nil z m = absurd (Memᴰ.not-nil m)
-    cut-forest (leaf p f) z m = cut-forest f (after-leaf p z) m
-    cut-forest (child {s} t f) z m =
-        let gap = here (tree-nonterminal t) f in
-        go (λ m'. subst (Cut g k) (z.agrees 0 s gap t) (cut-tree t (z.opened 0 s gap) m'))
-        (λ m'. cut-forest f (after-child t z) m') (Memᴰ.append_cases (derivation t) m)
+    cut_forest : {w : List ℕ} (f : Forest g w) (z : Around w) → k ∈ derivations f → Cut g k (z.whole f)
+    cut_forest nil z m = absurd (Memᴰ.not-nil m)
+    cut_forest (leaf p f) z m = cut_forest f (after_leaf p z) m
+    cut_forest (child {s} t f) z m =
+        let gap = here (tree_nonterminal t) f in
+        go (λ m'. subst (Cut g k) (z.agrees 0 s gap t) (cut_tree t (z.opened 0 s gap) m'))
+        (λ m'. cut_forest f (after_child t z) m') (Memᴰ.append_cases (derivation t) m)
       where
         go : (k ∈ derivation t → Cut g k (z.whole (child t f))) → (k ∈ derivations f → Cut g k (z.whole (child t f))) →
             (k ∈ derivation t) ⊎ (k ∈ derivations f) → Cut g k (z.whole (child t f))
@@ -78,34 +78,34 @@ module _ (g : Grammar) (k : ℕ) where
   -- CUT: a tree of the start that uses k is an open tree with a node of rule k at its leaf
   pub cut : (t : Tree g g.start) → Uses k t → Cut g k t
   unfolding plug
-  cut t m = cut-tree t root m
+  cut t m = cut_tree t root m
 
   -- and what is put at the leaf of an open tree is used by the whole
-  fill-uses : {w : List ℕ} {i A : ℕ} (a : Gap g w i A) (t : Tree g A) → Uses k t → k ∈ derivations (fill a t)
+  fill_uses : {w : List ℕ} {i A : ℕ} (a : Gap g w i A) (t : Tree g A) → Uses k t → k ∈ derivations (fill a t)
   unfolding fill
-  fill-uses (here p f) t m = Memᴰ.append_left (derivations f) m
-  fill-uses (past-leaf p a) t m = fill-uses a t m
-  fill-uses (past-child u a) t m = Memᴰ.append_right (derivation u) (fill-uses a t m)
+  fill_uses (here p f) t m = Memᴰ.append_left (derivations f) m
+  fill_uses (past_leaf p a) t m = fill_uses a t m
+  fill_uses (past_child u a) t m = Memᴰ.append_right (derivation u) (fill_uses a t m)
 
-  pub plug-uses : {A : ℕ} (x : Open g A) (t : Tree g A) → Uses k t → Uses k (plug x t)
+  pub plug_uses : {A : ℕ} (x : Open g A) (t : Tree g A) → Uses k t → Uses k (plug x t)
   unfolding plug
-  plug-uses root t m = m
-  plug-uses (down j r x a) t m = plug-uses x (node j r (fill a t)) (Memᴰ.tail (fill-uses a t m))
+  plug_uses root t m = m
+  plug_uses (down j r x a) t m = plug_uses x (node j r (fill a t)) (Memᴰ.tail (fill_uses a t m))
 
 module _ (c : Cost) {g : Grammar} where
   open c use {C, 𝟎, ◌⊕◌, tok, once, assoc, comm, unit}
 
   infixl 60 ◌⊕◌
-  fill-cost : {w : List ℕ} {i A : ℕ} (a : Gap g w i A) (t : Tree g A) → forestCost c (fill a t) ≡ gapCost c a ⊕ treeCost c t
-  unfolding fill treeCost gapCost
-  fill-cost (here p f) t = comm _ _
-  fill-cost (past-leaf {s} p a) t = ap (λ d. tok s ⊕ d) (fill-cost a t) ∙ sym (assoc _ _ _)
-  fill-cost (past-child u a) t = ap (λ d. treeCost c u ⊕ d) (fill-cost a t) ∙ sym (assoc _ _ _)
+  fill_cost : {w : List ℕ} {i A : ℕ} (a : Gap g w i A) (t : Tree g A) → forest_cost c (fill a t) ≡ gap_cost c a ⊕ tree_cost c t
+  unfolding fill tree_cost gap_cost
+  fill_cost (here p f) t = comm _ _
+  fill_cost (past_leaf {s} p a) t = ap (λ d. tok s ⊕ d) (fill_cost a t) ∙ sym (assoc _ _ _)
+  fill_cost (past_child u a) t = ap (λ d. tree_cost c u ⊕ d) (fill_cost a t) ∙ sym (assoc _ _ _)
 
   -- a filled tree costs what the open tree costs and what is put at its leaf
-  pub plug-cost : {A : ℕ} (x : Open g A) (t : Tree g A) → treeCost c (plug x t) ≡ openCost c x ⊕ treeCost c t
-  unfolding plug treeCost openCost
-  plug-cost root t = sym (unit _)
-  plug-cost (down k r x a) t =
-      let regroup = ap (λ d. openCost c x ⊕ d) (sym (assoc once (gapCost c a) (treeCost c t))) ∙ sym (assoc _ _ _) in
-      plug-cost x (node k r (fill a t)) ∙ ap (λ d. openCost c x ⊕ (once ⊕ d)) (fill-cost a t) ∙ regroup
+  pub plug_cost : {A : ℕ} (x : Open g A) (t : Tree g A) → tree_cost c (plug x t) ≡ open_cost c x ⊕ tree_cost c t
+  unfolding plug tree_cost open_cost
+  plug_cost root t = sym (unit _)
+  plug_cost (down k r x a) t =
+      let regroup = ap (λ d. open_cost c x ⊕ d) (sym (assoc once (gap_cost c a) (tree_cost c t))) ∙ sym (assoc _ _ _) in
+      plug_cost x (node k r (fill a t)) ∙ ap (λ d. open_cost c x ⊕ (once ⊕ d)) (fill_cost a t) ∙ regroup

@@ -13,9 +13,9 @@ pub all_first : (P : ℕ → Type 0) (u v : List ℕ) → All P (u ++ v) → All
 all_first P [] v a = tt
 all_first P (s ∷ u) v a = (a.0, all_first P u v a.1)
 
-pub all-second : (P : ℕ → Type 0) (u v : List ℕ) → All P (u ++ v) → All P v
-all-second P [] v a = a
-all-second P (s ∷ u) v a = all-second P u v a.1
+pub all_second : (P : ℕ → Type 0) (u v : List ℕ) → All P (u ++ v) → All P v
+all_second P [] v a = a
+all_second P (s ∷ u) v a = all_second P u v a.1
 
 pub all_both : (P Q : ℕ → Type 0) (u : List ℕ) → All P u → All Q u → All (λ s. P s × Q s) u
 all_both P Q [] a b = tt

@@ -14,20 +14,20 @@ use mathlib.Core.List.Memᴰ
 use mathlib.Core.List.{List, [], ◌∷◌}
 use Rattle.grammar.specs.Words.{Grammar, RuleAt, R}
 use Rattle.grammar.specs.Tree.{Tree, Forest, node, ◌∈◌}
-use Rattle.grammar.specs.Measure.{Cost, treeCost, forestCost}
+use Rattle.grammar.specs.Measure.{Cost, tree_cost, forest_cost}
 use Rattle.grammar.specs.Least.{Least}
 use Rattle.grammar.specs.Refusals.{AllTrees}
-use Rattle.grammar.proofs.RuleNumbers.{rule-left, rule-right, rule-number, RuleOrNone}
-use Rattle.grammar.proofs.CostOrder.{le_of_eq, at-most-left, at-most-right}
-use Rattle.grammar.proofs.AlongMembers.{along-members}
+use Rattle.grammar.proofs.RuleNumbers.{rule_left, rule_right, rule_number, RuleOrNone}
+use Rattle.grammar.proofs.CostOrder.{le_of_eq, at_most_left, at_most_right}
+use Rattle.grammar.proofs.AlongMembers.{along_members}
 use Rattle.grammar.specs.Certificates.{Stuck, word_size, Leasts}
-use Rattle.grammar.proofs.Dead.{stuck-no-tree}
-use Rattle.grammar.proofs.Search.{member?, in-cons, Smallest, NoOffer, Best}
-use Rattle.grammar.proofs.Settles.{Settled, Made, Halt, settles, settled-or-left}
-use Rattle.grammar.proofs.Certificate.{known-forest, known-least}
+use Rattle.grammar.proofs.Dead.{stuck_no_tree}
+use Rattle.grammar.proofs.Search.{member?, in_cons, Smallest, NoOffer, Best}
+use Rattle.grammar.proofs.Settles.{Settled, Made, Halt, settles, settled_or_left}
+use Rattle.grammar.proofs.Certificate.{known_forest, known_least}
 pub use Rattle.grammar.proofs.RuleNumbers.{rule?}
-pub use Rattle.grammar.proofs.Search.{upto, in-upto}
-pub use Rattle.grammar.proofs.Settles.{put, put-here, put-there}
+pub use Rattle.grammar.proofs.Search.{upto, in_upto}
+pub use Rattle.grammar.proofs.Settles.{put, put_here, put_there}
 
 -- all nonterminals of w are settled
 abbrev pub Ready : ℕ → List ℕ → List ℕ → Type 0
@@ -38,18 +38,18 @@ abbrev pub Waits : ℕ → List ℕ → List ℕ → Type 0
 Waits N todo w = (B : ℕ) × B ∈ w × B < N × B ∈ todo
 
 -- each right side is ready, or waits
-pub all-or-one : (N : ℕ) (todo w : List ℕ) → Ready N todo w ⊎ Waits N todo w
-all-or-one N todo [] = inl (λ B m lt. absurd (Memᴰ.not-nil m))
-all-or-one N todo (s ∷ w) = go (all-or-one N todo w) (dec_lt s N) (member? s todo)
+pub all_or_one : (N : ℕ) (todo w : List ℕ) → Ready N todo w ⊎ Waits N todo w
+all_or_one N todo [] = inl (λ B m lt. absurd (Memᴰ.not-nil m))
+all_or_one N todo (s ∷ w) = go (all_or_one N todo w) (dec_lt s N) (member? s todo)
   where
-    ready-cons : (s < N → ¬ (s ∈ todo)) → Ready N todo w → Ready N todo (s ∷ w)
-    ready-cons first later = in-cons (λ B. B < N → ¬ (B ∈ todo)) first later
+    ready_cons : (s < N → ¬ (s ∈ todo)) → Ready N todo w → Ready N todo (s ∷ w)
+    ready_cons first later = in_cons (λ B. B < N → ¬ (B ∈ todo)) first later
 
     go : Ready N todo w ⊎ Waits N todo w → Dec (s < N) → Dec (s ∈ todo) → Ready N todo (s ∷ w) ⊎ Waits N todo (s ∷ w)
     go (inr z) d d' = inr (z.0, Memᴰ.tail z.1, z.2, z.3)
     go (inl ready) (yes lt) (yes m) = inr (s, Memᴰ.head refl, lt, m)
-    go (inl ready) (yes lt) (no n) = inl (ready-cons (λ l. n) ready)
-    go (inl ready) (no n) d = inl (ready-cons (λ l. absurd (n l)) ready)
+    go (inl ready) (yes lt) (no n) = inl (ready_cons (λ l. n) ready)
+    go (inl ready) (no n) d = inl (ready_cons (λ l. absurd (n l)) ready)
 
 module _ (c : Cost) (g : Grammar) where
   open c use {C, 𝟎, ◌⊕◌, ◌≼◌, once, le_refl, le_trans, mono}
@@ -57,11 +57,11 @@ module _ (c : Cost) (g : Grammar) where
   infixl 60 ◌⊕◌
   infix 40 ◌≼◌
   -- a part is at most the whole
-  pub more-right : {x y : C} → y ≼ x ⊕ y
-  more-right = at-most-right c
+  pub more_right : {x y : C} → y ≼ x ⊕ y
+  more_right = at_most_right c
 
   pub more_left : {x y : C} → x ≼ x ⊕ y
-  more_left = at-most-left c
+  more_left = at_most_left c
 
   -- the leasts of all nonterminals but those of todo
   abbrev State : List ℕ → Type 0
@@ -91,7 +91,7 @@ module _ (c : Cost) (g : Grammar) where
       where
         go : RuleOrNone g k → Best c (Offered todo state k)
         go (inr none) = inr (λ y o. none o.to o.offer.w o.offer.rule)
-        go (inl (A, w, r)) = at (member? A todo) (all-or-one g.N todo w)
+        go (inl (A, w, r)) = at (member? A todo) (all_or_one g.N todo w)
           where
             at : Dec (A ∈ todo) → Ready g.N todo w ⊎ Waits g.N todo w → Best c (Offered todo state k)
             at (yes m) (inl ready) =
@@ -99,38 +99,38 @@ module _ (c : Cost) (g : Grammar) where
                   once ⊕ word_size c g state.figures w,
                   offers r m ready,
                   λ y o.
-                      let e : o.offer.w ≡ w = rule-right refl o.offer.rule r in
+                      let e : o.offer.w ≡ w = rule_right refl o.offer.rule r in
                       let e' = o.offer.is in
                       le_of_eq c cc,
                 )
-            at (no n) h = inr (λ y o. n (rw (rule-left refl o.offer.rule r) at o.unsettled))
+            at (no n) h = inr (λ y o. n (rw (rule_left refl o.offer.rule r) at o.unsettled))
             at (yes m) (inr z) =
-                inr (λ y o. (rw (rule-right refl o.offer.rule r) at o.offer.ready) z.0 z.1 z.2 z.3)
+                inr (λ y o. (rw (rule_right refl o.offer.rule r) at o.offer.ready) z.0 z.1 z.2 z.3)
 
     -- a tree of an unsettled nonterminal costs at least the smallest offer
-    smallest-below : (s : Smallest c (Offered todo state) (R g)) {A : ℕ} (t : Tree g A) → A ∈ todo → s.cost ≼ treeCost c t
-    unfolding treeCost
-    smallest-below s = along-members (λ B. B ∈ todo) (λ A t. s.cost ≼ treeCost c t) (λ w f. s.cost ≼ forestCost c f) (record {
-      at-node = λ k A w r f m below. at-node k A w r f m below (all-or-one g.N todo w);
+    smallest-below : (s : Smallest c (Offered todo state) (R g)) {A : ℕ} (t : Tree g A) → A ∈ todo → s.cost ≼ tree_cost c t
+    unfolding tree_cost
+    smallest-below s = along_members (λ B. B ∈ todo) (λ A t. s.cost ≼ tree_cost c t) (λ w f. s.cost ≼ forest_cost c f) (record {
+      at_node = λ k A w r f m below. at_node k A w r f m below (all_or_one g.N todo w);
       from_first = λ x w t f le. le_trans le more_left;
-      past-child = λ x w t f le. le_trans le more-right;
-      past-leaf = λ x w p f le. le_trans le more-right;
+      past_child = λ x w t f le. le_trans le more_right;
+      past_leaf = λ x w p f le. le_trans le more_right;
     })
       where
-        at-node : (k A : ℕ) (w : List ℕ) (r : RuleAt g k A w) (f : Forest g w) → A ∈ todo →
-            ((B : ℕ) → B ∈ w → B < g.N → B ∈ todo → s.cost ≼ forestCost c f) → Ready g.N todo w ⊎ Waits g.N todo w →
-            s.cost ≼ once ⊕ forestCost c f
-        at-node k A w r f m below (inl ready) =
-            le_trans (s.below k _ (rule-number r) (offers r m ready))
-            (mono (le_refl once) (known-least c g state.figures f (λ B n lt. state.right B lt (ready B n lt))))
-        at-node k A w r f m below (inr z) = le_trans (below z.0 z.1 z.2 z.3) more-right
+        at_node : (k A : ℕ) (w : List ℕ) (r : RuleAt g k A w) (f : Forest g w) → A ∈ todo →
+            ((B : ℕ) → B ∈ w → B < g.N → B ∈ todo → s.cost ≼ forest_cost c f) → Ready g.N todo w ⊎ Waits g.N todo w →
+            s.cost ≼ once ⊕ forest_cost c f
+        at_node k A w r f m below (inl ready) =
+            le_trans (s.below k _ (rule_number r) (offers r m ready))
+            (mono (le_refl once) (known_least c g state.figures f (λ B n lt. state.right B lt (ready B n lt))))
+        at_node k A w r f m below (inr z) = le_trans (below z.0 z.1 z.2 z.3) more_right
 
     -- and the rule that makes it attains it, over least trees
     smallest-right : (s : Smallest c (Offered todo state) (R g)) → Least c g s.offers.to s.cost
-    unfolding treeCost
+    unfolding tree_cost
     smallest-right s =
         let o = s.offers.offer in
-        let (f, e) = known-forest c g state.figures o.w (λ B n lt. state.right B lt (o.ready B n lt)) in
+        let (f, e) = known_forest c g state.figures o.w (λ B n lt. state.right B lt (o.ready B n lt)) in
         record {
           tree = node s.who o.rule f;
           costs = ap (λ d. once ⊕ d) e ∙ sym o.is;
@@ -138,27 +138,27 @@ module _ (c : Cost) (g : Grammar) where
         }
 
     -- with no offer the unsettled ones are stuck
-    no-offer-stuck : NoOffer c (Offered todo state) (R g) → Stuck g (λ A. A ∈ todo)
-    no-offer-stuck no-offer = record { names = λ k A w r m. go k A w r m (all-or-one g.N todo w) }
+    no_offer_stuck : NoOffer c (Offered todo state) (R g) → Stuck g (λ A. A ∈ todo)
+    no_offer_stuck no_offer = record { names = λ k A w r m. go k A w r m (all_or_one g.N todo w) }
       where
         go : (k A : ℕ) (w : List ℕ) → RuleAt g k A w → A ∈ todo → Ready g.N todo w ⊎ Waits g.N todo w → Waits g.N todo w
-        go k A w r m (inl ready) = absurd (no-offer k _ (rule-number r) (offers r m ready))
+        go k A w r m (inl ready) = absurd (no_offer k _ (rule_number r) (offers r m ready))
         go k A w r m (inr z) = z
 
   halt : Halt c g.N (upto g.N) (Least c g) Offer (R g)
   halt = settles c g.N (upto g.N) (Least c g) Offer (R g) (record { best = best; meets = smallest-right })
-      (record { figures = λ A. 𝟎; among = λ A m. m; right = λ A lt n. absurd (n (in-upto g.N A lt)) })
+      (record { figures = λ A. 𝟎; among = λ A m. m; right = λ A lt n. absurd (n (in_upto g.N A lt)) })
 
-  left-treeless : (A : ℕ) → A ∈ halt.todo → ¬ Tree g A
-  left-treeless A m = stuck-no-tree g (λ B. B ∈ halt.todo) (no-offer-stuck halt.todo halt.state halt.no-offer) m
+  left_treeless : (A : ℕ) → A ∈ halt.todo → ¬ Tree g A
+  left_treeless A m = stuck_no_tree g (λ B. B ∈ halt.todo) (no_offer_stuck halt.todo halt.state halt.no_offer) m
 
   -- DECIDED: a nonterminal has a least, or it has no tree
   pub least? : (A : ℕ) → A < g.N → ((x : C) × Least c g A x) ⊎ ¬ Tree g A
-  least? A lt = go (settled-or-left c g.N (upto g.N) (Least c g) Offer (R g) halt A lt)
+  least? A lt = go (settled_or_left c g.N (upto g.N) (Least c g) Offer (R g) halt A lt)
     where
       go : Least c g A (halt.state.figures A) ⊎ A ∈ halt.todo → ((x : C) × Least c g A x) ⊎ ¬ Tree g A
       go (inl least) = inl (halt.state.figures A, least)
-      go (inr m) = inr (left-treeless A m)
+      go (inr m) = inr (left_treeless A m)
 
   pub tree? : (A : ℕ) → A < g.N → Tree g A ⊎ ¬ Tree g A
   tree? A lt = go (least? A lt)
@@ -168,5 +168,5 @@ module _ (c : Cost) (g : Grammar) where
       go (inr none) = inr none
 
   -- LEASTS EXIST where all have trees
-  pub leasts-exist : AllTrees g → (v : ℕ → C) × Leasts c g v
-  leasts-exist trees = (halt.state.figures, λ A lt. halt.state.right A lt (λ m. left-treeless A m (trees A lt)))
+  pub leasts_exist : AllTrees g → (v : ℕ → C) × Leasts c g v
+  leasts_exist trees = (halt.state.figures, λ A lt. halt.state.right A lt (λ m. left_treeless A m (trees A lt)))

@@ -12,8 +12,8 @@ use native.Mathlib.Omega.{arith}
 use Rattle.grammar.specs.Words.{Grammar, RuleAt}
 use Rattle.grammar.specs.Derivation.{Terminals, LeftStep, left, Leftmost, done, next, Derives}
 use Rattle.grammar.specs.Tree.{Tree, Forest, node, nil, leaf, child, sentence, sentences, derivation, derivations}
-use Rattle.grammar.proofs.SameListing.{tree-nonterminal}
-pub use Rattle.grammar.proofs.EverySymbol.{all_append, all_first, all-second}
+use Rattle.grammar.proofs.SameListing.{tree_nonterminal}
+pub use Rattle.grammar.proofs.EverySymbol.{all_append, all_first, all_second}
 
 -- a forest of σ, and a tree of A, with this derivation and this sentence
 pub record Parse (g : Grammar) (σ ks t : List ℕ) : Type 0 where
@@ -29,50 +29,50 @@ pub record ParseTree (g : Grammar) (A : ℕ) (ks t : List ℕ) : Type 0 where
 module _ {g : Grammar} where
   mutual
     -- a sentence has no nonterminals
-    pub tree-terminals : {A : ℕ} (t : Tree g A) → Terminals g (sentence t)
-    tree-terminals (node k r f) = forest-terminals f
+    pub tree_terminals : {A : ℕ} (t : Tree g A) → Terminals g (sentence t)
+    tree_terminals (node k r f) = forest_terminals f
 
-    pub forest-terminals : {w : List ℕ} (f : Forest g w) → Terminals g (sentences f)
-    forest-terminals nil = tt
-    forest-terminals (leaf p f) = (p, forest-terminals f)
-    forest-terminals (child t f) = all_append (λ s. g.N ≤ s) (sentence t) (sentences f) (tree-terminals t) (forest-terminals f)
+    pub forest_terminals : {w : List ℕ} (f : Forest g w) → Terminals g (sentences f)
+    forest_terminals nil = tt
+    forest_terminals (leaf p f) = (p, forest_terminals f)
+    forest_terminals (child t f) = all_append (λ s. g.N ≤ s) (sentence t) (sentences f) (tree_terminals t) (forest_terminals f)
 
   -- a leftmost step with δ behind, and with terminals in front
   left_behind : {k : ℕ} {σ τ : List ℕ} (δ : List ℕ) → LeftStep g k σ τ → LeftStep g k (σ ++ δ) (τ ++ δ)
   left_behind δ (left w β T r) = simp append_assoc (left w (β ++ δ) T r)
 
-  pub left-before : {k : ℕ} {σ τ : List ℕ} (u : List ℕ) → Terminals g u → LeftStep g k σ τ → LeftStep g k (u ++ σ) (u ++ τ)
-  left-before u U (left w β T r) = simp append_assoc at (left (u ++ w) β (all_append (λ s. g.N ≤ s) u w U T) r)
+  pub left_before : {k : ℕ} {σ τ : List ℕ} (u : List ℕ) → Terminals g u → LeftStep g k σ τ → LeftStep g k (u ++ σ) (u ++ τ)
+  left_before u U (left w β T r) = simp append_assoc at (left (u ++ w) β (all_append (λ s. g.N ≤ s) u w U T) r)
 
-  leftmost-behind : {ks σ τ : List ℕ} (δ : List ℕ) → Leftmost g σ ks τ → Leftmost g (σ ++ δ) ks (τ ++ δ)
-  leftmost-behind δ done = done
-  leftmost-behind δ (next s d) = next (left_behind δ s) (leftmost-behind δ d)
+  leftmost_behind : {ks σ τ : List ℕ} (δ : List ℕ) → Leftmost g σ ks τ → Leftmost g (σ ++ δ) ks (τ ++ δ)
+  leftmost_behind δ done = done
+  leftmost_behind δ (next s d) = next (left_behind δ s) (leftmost_behind δ d)
 
-  leftmost-before : {ks σ τ : List ℕ} (u : List ℕ) → Terminals g u → Leftmost g σ ks τ → Leftmost g (u ++ σ) ks (u ++ τ)
-  leftmost-before u U done = done
-  leftmost-before u U (next s d) = next (left-before u U s) (leftmost-before u U d)
+  leftmost_before : {ks σ τ : List ℕ} (u : List ℕ) → Terminals g u → Leftmost g σ ks τ → Leftmost g (u ++ σ) ks (u ++ τ)
+  leftmost_before u U done = done
+  leftmost_before u U (next s d) = next (left_before u U s) (leftmost_before u U d)
 
-  leftmost-trans : {ks js ρ σ τ : List ℕ} → Leftmost g ρ ks σ → Leftmost g σ js τ → Leftmost g ρ (ks ++ js) τ
-  leftmost-trans done e = e
-  leftmost-trans (next s d) e = next s (leftmost-trans d e)
+  leftmost_trans : {ks js ρ σ τ : List ℕ} → Leftmost g ρ ks σ → Leftmost g σ js τ → Leftmost g ρ (ks ++ js) τ
+  leftmost_trans done e = e
+  leftmost_trans (next s d) e = next s (leftmost_trans d e)
 
   mutual
     -- the leftmost steps of a tree, from its root to its sentence, are by the rules of its derivation
-    pub tree-leftmost : {A : ℕ} (t : Tree g A) → Leftmost g (A ∷ []) (derivation t) (sentence t)
-    tree-leftmost (node {w = w} k r f) =
-        let under : Leftmost g (w ++ []) (derivations f) (sentences f) = rw append-nil (forest-leftmost f) in
+    pub tree_leftmost : {A : ℕ} (t : Tree g A) → Leftmost g (A ∷ []) (derivation t) (sentence t)
+    tree_leftmost (node {w = w} k r f) =
+        let under : Leftmost g (w ++ []) (derivations f) (sentences f) = rw append-nil (forest_leftmost f) in
         next (left [] [] tt r) under
 
-    pub forest-leftmost : {w : List ℕ} (f : Forest g w) → Leftmost g w (derivations f) (sentences f)
-    forest-leftmost nil = done
-    forest-leftmost (leaf {s} p f) = leftmost-before (s ∷ []) (p, tt) (forest-leftmost f)
-    forest-leftmost (child {w = w} t f) =
-        let rest = leftmost-before (sentence t) (tree-terminals t) (forest-leftmost f) in
-        leftmost-trans (leftmost-behind w (tree-leftmost t)) rest
+    pub forest_leftmost : {w : List ℕ} (f : Forest g w) → Leftmost g w (derivations f) (sentences f)
+    forest_leftmost nil = done
+    forest_leftmost (leaf {s} p f) = leftmost_before (s ∷ []) (p, tt) (forest_leftmost f)
+    forest_leftmost (child {w = w} t f) =
+        let rest = leftmost_before (sentence t) (tree_terminals t) (forest_leftmost f) in
+        leftmost_trans (leftmost_behind w (tree_leftmost t)) rest
 
   -- THERE: the derivation of a tree of the start derives its sentence
-  pub tree-derives : (t : Tree g g.start) → Derives g (derivation t) (sentence t)
-  tree-derives t = record { leftmost = tree-leftmost t; complete = tree-terminals t }
+  pub tree_derives : (t : Tree g g.start) → Derives g (derivation t) (sentence t)
+  tree_derives t = record { leftmost = tree_leftmost t; complete = tree_terminals t }
 
   -- terminals are their own forest, with no rule uses
   pub leaves : (t : List ℕ) → Terminals g t → Parse g t [] t
@@ -108,17 +108,17 @@ module _ {g : Grammar} where
   beside (leaf p f) h = leaf p (beside f h)
   beside (child t f) h = child t (beside f h)
 
-  pub beside-says : {α β : List ℕ} (f : Forest g α) (h : Forest g β) → sentences (beside f h) ≡ sentences f ++ sentences h
+  pub beside_says : {α β : List ℕ} (f : Forest g α) (h : Forest g β) → sentences (beside f h) ≡ sentences f ++ sentences h
   unfolding beside
-  beside-says nil h = refl
-  beside-says (leaf {s} p f) h = ap (s ∷◌) (beside-says f h)
-  beside-says (child t f) h = ap (sentence t ++◌) (beside-says f h) ∙ sym (append_assoc (sentence t) _ _)
+  beside_says nil h = refl
+  beside_says (leaf {s} p f) h = ap (s ∷◌) (beside_says f h)
+  beside_says (child t f) h = ap (sentence t ++◌) (beside_says f h) ∙ sym (append_assoc (sentence t) _ _)
 
-  pub beside-lists : {α β : List ℕ} (f : Forest g α) (h : Forest g β) → derivations (beside f h) ≡ derivations f ++ derivations h
+  pub beside_lists : {α β : List ℕ} (f : Forest g α) (h : Forest g β) → derivations (beside f h) ≡ derivations f ++ derivations h
   unfolding beside
-  beside-lists nil h = refl
-  beside-lists (leaf p f) h = beside-lists f h
-  beside-lists (child t f) h = ap (derivation t ++◌) (beside-lists f h) ∙ sym (append_assoc (derivation t) _ _)
+  beside_lists nil h = refl
+  beside_lists (leaf p f) h = beside_lists f h
+  beside_lists (child t f) h = ap (derivation t ++◌) (beside_lists f h) ∙ sym (append_assoc (derivation t) _ _)
 
   -- a forest of γαβ with a node over α: one of γAβ, with the same sentence, and the rule's number behind what γ's forest lists
   pub record NodeOver (k A : ℕ) (γ α β : List ℕ) (f : Forest g (γ ++ (α ++ β))) : Type 0 where
@@ -137,30 +137,30 @@ module _ {g : Grammar} where
       let e = child (node k r b.one) b.two in
       record {
         forest = beside a.one e;
-        says = beside-says a.one e ∙ ap (sentences a.one ++◌) (sym b.says) ∙ sym a.says;
+        says = beside_says a.one e ∙ ap (sentences a.one ++◌) (sym b.says) ∙ sym a.says;
         front = a.one;
         rest = derivations a.two;
         before = a.lists;
-        after = beside-lists a.one e ∙ ap (λ ks. derivations a.one ++ k ∷ ks) (sym b.lists);
+        after = beside_lists a.one e ∙ ap (λ ks. derivations a.one ++ k ∷ ks) (sym b.lists);
       }
 
   -- a forest of terminals has no rule uses
-  no-rules : {w : List ℕ} (f : Forest g w) → Terminals g w → derivations f ≡ []
-  no-rules nil T = refl
-  no-rules (leaf p f) T = no-rules f T.1
-  no-rules (child t f) T = absurd (let n = T.0 in omega (arith, tree-nonterminal t))
+  no_rules : {w : List ℕ} (f : Forest g w) → Terminals g w → derivations f ≡ []
+  no_rules nil T = refl
+  no_rules (leaf p f) T = no_rules f T.1
+  no_rules (child t f) T = absurd (let n = T.0 in omega (arith, tree_nonterminal t))
 
-  parse-back : {k : ℕ} {σ τ ks t : List ℕ} → LeftStep g k σ τ → Parse g τ ks t → Parse g σ (k ∷ ks) t
-  parse-back {k} (left w β T r) h =
+  parse_back : {k : ℕ} {σ τ ks t : List ℕ} → LeftStep g k σ τ → Parse g τ ks t → Parse g σ (k ∷ ks) t
+  parse_back {k} (left w β T r) h =
       let z = node_over w β r h.forest in
-      let n = no-rules z.front T in
+      let n = no_rules z.front T in
       let same : derivations h.forest ≡ z.rest = rw n at z.before in
       let new : derivations z.forest ≡ k ∷ z.rest = rw n at z.after in
       record { forest = z.forest; lists = new ∙ ap (k ∷◌) (sym same ∙ h.lists); says = z.says ∙ h.says }
 
   parse : {σ τ ks : List ℕ} → Leftmost g σ ks τ → Terminals g τ → Parse g σ ks τ
   parse {τ = τ} done T = leaves τ T
-  parse (next s d) T = parse-back s (parse d T)
+  parse (next s d) T = parse_back s (parse d T)
 
   -- a forest of one nonterminal is a tree
   pub single : {A : ℕ} {ks t : List ℕ} → A < g.N → Parse g (A ∷ []) ks t → ParseTree g A ks t
@@ -175,5 +175,5 @@ module _ {g : Grammar} where
       }
 
   -- BACK: what derives is the derivation of a tree of the start, with that sentence
-  pub derives-tree : {ks t : List ℕ} → g.start < g.N → Derives g ks t → ParseTree g g.start ks t
-  derives-tree lt d = single lt (parse d.leftmost d.complete)
+  pub derives_tree : {ks t : List ℕ} → g.start < g.N → Derives g ks t → ParseTree g g.start ks t
+  derives_tree lt d = single lt (parse d.leftmost d.complete)

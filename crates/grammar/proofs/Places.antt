@@ -11,7 +11,7 @@ use mathlib.Core.Option.{Option, some, none}
 use lib.ListN.{get_elem?}
 use Rattle.grammar.specs.Tree.{◌∈◌}
 use Rattle.grammar.specs.Certificates.{Holds}
-use Rattle.grammar.proofs.ConstructorsDiffer.{none-not-some}
+use Rattle.grammar.proofs.ConstructorsDiffer.{none_not_some}
 
 -- an element stands at place i of xs, or none does
 abbrev pub ElementOrNone : {X : Type 0} → List X → ℕ → Type 0
@@ -21,7 +21,7 @@ pub element? : {X : Type 0} (xs : List X) (i : ℕ) → ElementOrNone xs i
 element? {X} xs i = go (get_elem? xs i) refl
   where
     go : (o : Option X) → get_elem? xs i ≡ o → ElementOrNone xs i
-    go none e = inr (λ x h. none-not-some (rw e at h))
+    go none e = inr (λ x h. none_not_some (rw e at h))
     go (some x) e = inl (x, e)
 
 pub holds? : (w : List ℕ) (i A : ℕ) → Dec (Holds w i A)

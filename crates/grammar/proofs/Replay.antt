@@ -19,66 +19,66 @@ use borrow.Author.Tests.{eqb-true, eq-eqb, ltb-true, ltb-false, lt-ltb, le-ltb}
 use Rattle.grammar.specs.Words.{Grammar, Rule, ◌⟶◌}
 use Rattle.grammar.specs.Derivation.{Terminals, LeftStep, left, Leftmost, done, next, Start, Derives, Halts, remain, inapt}
 use Rattle.grammar.specs.Derivation.{StopsAt}
-use Rattle.grammar.specs.Replaying.{Replayed, derived, stopped, before, where-true, opened, at_symbol, stepped, neither, complete?, ending}
+use Rattle.grammar.specs.Replaying.{Replayed, derived, stopped, before, where_true, opened, at_symbol, stepped, neither, complete?, ending}
 use Rattle.grammar.specs.Replaying.{replayed, replay}
-use Rattle.grammar.proofs.ConstructorsDiffer.{none-not-some}
-use Rattle.grammar.proofs.Leftmosts.{left-before}
+use Rattle.grammar.proofs.ConstructorsDiffer.{none_not_some}
+use Rattle.grammar.proofs.Leftmosts.{left_before}
 
-derived-not-stopped : {t : List ℕ} {p : ℕ} → derived t ≡ stopped p → ⊥
-derived-not-stopped e = let z : ◌≡◌ {A = ℕ} 0 1 = cc in omega arith
+derived_not_stopped : {t : List ℕ} {p : ℕ} → derived t ≡ stopped p → ⊥
+derived_not_stopped e = let z : ◌≡◌ {A = ℕ} 0 1 = cc in omega arith
 
-never-some : {X : Type 0} (o : Option X) → ((a : X) → ¬ (o ≡ some a)) → o ≡ none
-never-some none h = refl
-never-some (some a) h = absurd (h a refl)
+never_some : {X : Type 0} (o : Option X) → ((a : X) → ¬ (o ≡ some a)) → o ≡ none
+never_some none h = refl
+never_some (some a) h = absurd (h a refl)
 
 before-some : (x : ℕ) (o : Option (List ℕ)) (ys : List ℕ) → before x o ≡ some ys →
     (xs : List ℕ) × (o ≡ some xs) × (ys ≡ x ∷ xs)
-before-some x none ys e = absurd (none-not-some e)
+before-some x none ys e = absurd (none_not_some e)
 before-some x (some xs) ys e = (xs, refl, cc)
 
 module _ (g : Grammar) where
-  opened-step : (k A : ℕ) (β τ : List ℕ) (o : Option Rule) → A < g.N → get_elem? g.rules k ≡ o → opened A β o ≡ some τ →
+  opened_step : (k A : ℕ) (β τ : List ℕ) (o : Option Rule) → A < g.N → get_elem? g.rules k ≡ o → opened A β o ≡ some τ →
       LeftStep g k (A ∷ β) τ
-  opened-step k A β τ none lt h e = absurd (none-not-some e)
-  opened-step k A β τ (some (B ⟶ α)) lt h e = go (eqb A B) refl e
+  opened_step k A β τ none lt h e = absurd (none_not_some e)
+  opened_step k A β τ (some (B ⟶ α)) lt h e = go (eqb A B) refl e
     where
-      go : (b : Bool) → eqb A B ≡ b → where-true b (α ++ β) ≡ some τ → LeftStep g k (A ∷ β) τ
+      go : (b : Bool) → eqb A B ≡ b → where_true b (α ++ β) ≡ some τ → LeftStep g k (A ∷ β) τ
       go true t e =
           let q : α ++ β ≡ τ = cc in
           let same : A ≡ B = eqb-true A B t in
           rw (← q) (left [] {A = A} {α = α} β tt (record { stands = rw same h; left = lt }))
-      go false t e = absurd (none-not-some e)
+      go false t e = absurd (none_not_some e)
 
   -- a step that is computed is a leftmost step, and the only one
-  stepped-left : (k : ℕ) (σ τ : List ℕ) → stepped g k σ ≡ some τ → LeftStep g k σ τ
+  stepped_left : (k : ℕ) (σ τ : List ℕ) → stepped g k σ ≡ some τ → LeftStep g k σ τ
   unfolding stepped
-  stepped-left k [] τ e = absurd (none-not-some e)
-  stepped-left k (s ∷ σ) τ e = go (λ τ' e'. stepped-left k σ τ' e') (ltb s g.N) refl e
+  stepped_left k [] τ e = absurd (none_not_some e)
+  stepped_left k (s ∷ σ) τ e = go (λ τ' e'. stepped_left k σ τ' e') (ltb s g.N) refl e
     where
       go : ((τ' : List ℕ) → stepped g k σ ≡ some τ' → LeftStep g k σ τ') → (b : Bool) → ltb s g.N ≡ b →
           at_symbol b s (opened s σ (get_elem? g.rules k)) (stepped g k σ) ≡ some τ → LeftStep g k (s ∷ σ) τ
-      go below true t e = opened-step k s σ τ (get_elem? g.rules k) (ltb-true s g.N t) refl e
+      go below true t e = opened_step k s σ τ (get_elem? g.rules k) (ltb-true s g.N t) refl e
       go below false t e =
           let (τ', e', q) = before-some s (stepped g k σ) τ e in
-          rw q (left-before (s ∷ []) (ltb-false s g.N t, tt) (below τ' e'))
+          rw q (left_before (s ∷ []) (ltb-false s g.N t, tt) (below τ' e'))
 
-  left-stepped : {k : ℕ} {σ τ : List ℕ} → LeftStep g k σ τ → stepped g k σ ≡ some τ
+  left_stepped : {k : ℕ} {σ τ : List ℕ} → LeftStep g k σ τ → stepped g k σ ≡ some τ
   unfolding stepped
-  left-stepped {k} (left w {A = A} {α = α} β T r) = go w T
+  left_stepped {k} (left w {A = A} {α = α} β T r) = go w T
     where
       go : (w : List ℕ) → Terminals g w → stepped g k (w ++ A ∷ β) ≡ some (w ++ (α ++ β))
       go [] T = rw (lt-ltb A g.N r.left, r.stands, eq-eqb A A refl)
       go (a ∷ w) T = rw (le-ltb a g.N T.0, go w T.1)
 
-  complete-true : (σ : List ℕ) → Terminals g σ → complete? g σ ≡ true
+  complete_true : (σ : List ℕ) → Terminals g σ → complete? g σ ≡ true
   unfolding complete?
-  complete-true [] T = refl
-  complete-true (s ∷ σ) T = rw (le-ltb s g.N T.0, complete-true σ T.1)
+  complete_true [] T = refl
+  complete_true (s ∷ σ) T = rw (le-ltb s g.N T.0, complete_true σ T.1)
 
-  true-complete : (σ : List ℕ) → complete? g σ ≡ true → Terminals g σ
+  true_complete : (σ : List ℕ) → complete? g σ ≡ true → Terminals g σ
   unfolding complete?
-  true-complete [] e = tt
-  true-complete (s ∷ σ) e = go (λ e'. true-complete σ e') (ltb s g.N) refl e
+  true_complete [] e = tt
+  true_complete (s ∷ σ) e = go (λ e'. true_complete σ e') (ltb s g.N) refl e
     where
       go : (complete? g σ ≡ true → Terminals g σ) → (b : Bool) → ltb s g.N ≡ b → neither b (complete? g σ) ≡ true →
           (g.N ≤ s) × Terminals g σ
@@ -90,25 +90,25 @@ module _ (g : Grammar) where
   replayed-derived [] p σ t e = go (complete? g σ) refl e
     where
       go : (b : Bool) → complete? g σ ≡ b → ending b σ p ≡ derived t → Leftmost g σ [] t × Terminals g t
-      go true h e = let q : σ ≡ t = cc in rw (← q) (done, true-complete σ h)
-      go false h e = absurd (derived-not-stopped (sym e))
+      go true h e = let q : σ ≡ t = cc in rw (← q) (done, true_complete σ h)
+      go false h e = absurd (derived_not_stopped (sym e))
   replayed-derived (k ∷ ks) p σ t e = go (λ τ e'. replayed-derived ks (suc p) τ t e') (stepped g k σ) refl e
     where
       go : ((τ : List ℕ) → replayed g ks (suc p) τ ≡ derived t → Leftmost g τ ks t × Terminals g t) → (o : Option (List ℕ)) →
           stepped g k σ ≡ o → elim o as (λ _. Replayed) [ some τ ↦ replayed g ks (suc p) τ | none ↦ stopped p ] ≡ derived t →
           Leftmost g σ (k ∷ ks) t × Terminals g t
-      go below (some τ) h e = let z = below τ e in (next (stepped-left k σ τ h) z.0, z.1)
-      go below none h e = absurd (derived-not-stopped (sym e))
+      go below (some τ) h e = let z = below τ e in (next (stepped_left k σ τ h) z.0, z.1)
+      go below none h e = absurd (derived_not_stopped (sym e))
 
   derived-replayed : {ks σ t : List ℕ} (p : ℕ) → Leftmost g σ ks t → Terminals g t → replayed g ks p σ ≡ derived t
   unfolding replayed
-  derived-replayed {σ = σ} p done T = rw (complete-true σ T)
-  derived-replayed p (next s d) T = rw (left-stepped s, replayed) (derived-replayed (suc p) d T)
+  derived-replayed {σ = σ} p done T = rw (complete_true σ T)
+  derived-replayed p (next s d) T = rw (left_stepped s, replayed) (derived-replayed (suc p) d T)
 
   -- EXACT: the replay is the sentence t exactly where the numbers derive t
-  pub replay-exact : (ks t : List ℕ) → (replay g ks ≡ derived t) ↔ Derives g ks t
+  pub replay_exact : (ks t : List ℕ) → (replay g ks ≡ derived t) ↔ Derives g ks t
   unfolding replay
-  replay-exact ks t = (
+  replay_exact ks t = (
     λ e. let z = replayed-derived ks 0 (Start g) t e in record { leftmost = z.0; complete = z.1 },
     λ d. derived-replayed 0 d.leftmost d.complete,
   )
@@ -124,12 +124,12 @@ module _ (g : Grammar) where
     halts : Halts g form others
 
   -- at once, and after one more number
-  stops-now : {σ ks : List ℕ} → Halts g σ ks → Stops σ ks 0
-  stops-now {σ} {ks} halts =
+  stops_now : {σ ks : List ℕ} → Halts g σ ks → Stops σ ks 0
+  stops_now {σ} {ks} halts =
       record { applied = []; others = ks; form = σ; all = refl; place = refl; leads = done; halts = halts }
 
-  stops-later : {j n : ℕ} {σ τ ks : List ℕ} → LeftStep g j σ τ → Stops τ ks n → Stops σ (j ∷ ks) (suc n)
-  stops-later {j} s z = record {
+  stops_later : {j n : ℕ} {σ τ ks : List ℕ} → LeftStep g j σ τ → Stops τ ks n → Stops σ (j ∷ ks) (suc n)
+  stops_later {j} s z = record {
     applied = j ∷ z.applied;
     others = z.others;
     form = z.form;
@@ -148,10 +148,10 @@ module _ (g : Grammar) where
   replayed-stopped [] p σ q e = go (complete? g σ) refl e
     where
       go : (b : Bool) → complete? g σ ≡ b → ending b σ p ≡ stopped q → StopsFrom [] p σ q
-      go true h e = absurd (derived-not-stopped e)
+      go true h e = absurd (derived_not_stopped e)
       go false h e =
           let same : p ≡ q = cc in
-          (0, omega arith, stops-now (remain (λ T. false≢true (sym h ∙ complete-true σ T))))
+          (0, omega arith, stops_now (remain (λ T. false≢true (sym h ∙ complete_true σ T))))
   replayed-stopped (k ∷ ks) p σ q e = go (λ τ e'. replayed-stopped ks (suc p) τ q e') (stepped g k σ) refl e
     where
       go : ((τ : List ℕ) → replayed g ks (suc p) τ ≡ stopped q → StopsFrom ks (suc p) τ q) → (o : Option (List ℕ)) →
@@ -159,10 +159,10 @@ module _ (g : Grammar) where
           StopsFrom (k ∷ ks) p σ q
       go below (some τ) h e =
           let (n, at, z) = below τ e in
-          (suc n, omega arith, stops-later (stepped-left k σ τ h) z)
+          (suc n, omega arith, stops_later (stepped_left k σ τ h) z)
       go below none h e =
           let same : p ≡ q = cc in
-          (0, omega arith, stops-now (inapt (λ τ s. none-not-some (sym h ∙ left-stepped s))))
+          (0, omega arith, stops_now (inapt (λ τ s. none_not_some (sym h ∙ left_stepped s))))
 
   stopped-replayed : {ps : List ℕ} (qs : List ℕ) (p : ℕ) {σ τ : List ℕ} → Leftmost g σ ps τ → Halts g τ qs →
       replayed g (ps ++ qs) p σ ≡ stopped (p + length ps)
@@ -170,17 +170,17 @@ module _ (g : Grammar) where
   stopped-replayed qs p {σ} done (remain n) = go (complete? g σ) refl
     where
       go : (b : Bool) → complete? g σ ≡ b → ending (complete? g σ) σ p ≡ stopped (p + 0)
-      go true h = absurd (n (true-complete σ h))
+      go true h = absurd (n (true_complete σ h))
       go false h = rw h (ap stopped (omega arith))
   stopped-replayed qs p {σ} done (inapt {k} n) =
-      rw (never-some (stepped g k σ) (λ τ e. n τ (stepped-left k σ τ e)), replayed) (ap stopped (omega arith))
+      rw (never_some (stepped g k σ) (λ τ e. n τ (stepped_left k σ τ e)), replayed) (ap stopped (omega arith))
   stopped-replayed qs p (next {ks = ks} s d) h =
-      rw (left-stepped s, replayed) (stopped-replayed qs (suc p) d h ∙ ap stopped (omega arith))
+      rw (left_stepped s, replayed) (stopped-replayed qs (suc p) d h ∙ ap stopped (omega arith))
 
   -- EXACT: it stops at p exactly where the numbers stop at p
-  pub replay-stops : (ks : List ℕ) (p : ℕ) → (replay g ks ≡ stopped p) ↔ StopsAt g ks p
+  pub replay_stops : (ks : List ℕ) (p : ℕ) → (replay g ks ≡ stopped p) ↔ StopsAt g ks p
   unfolding replay
-  replay-stops ks p = (to, from)
+  replay_stops ks p = (to, from)
     where
       to : replay g ks ≡ stopped p → StopsAt g ks p
       to e =
@@ -201,11 +201,11 @@ module _ (g : Grammar) where
           rw (z.all, z.place) (run ∙ ap stopped (zero-add (length z.applied)))
 
   -- a list of numbers derives one sentence at most, stops at one place at most, and never both
-  pub derives-unique : {ks t u : List ℕ} → Derives g ks t → Derives g ks u → t ≡ u
-  derives-unique {ks} {t} {u} d e = let a = (replay-exact ks t).1 d in let b = (replay-exact ks u).1 e in cc
+  pub derives_unique : {ks t u : List ℕ} → Derives g ks t → Derives g ks u → t ≡ u
+  derives_unique {ks} {t} {u} d e = let a = (replay_exact ks t).1 d in let b = (replay_exact ks u).1 e in cc
 
-  pub stops-unique : {ks : List ℕ} {p q : ℕ} → StopsAt g ks p → StopsAt g ks q → p ≡ q
-  stops-unique {ks} {p} {q} d e = let a = (replay-stops ks p).1 d in let b = (replay-stops ks q).1 e in cc
+  pub stops_unique : {ks : List ℕ} {p q : ℕ} → StopsAt g ks p → StopsAt g ks q → p ≡ q
+  stops_unique {ks} {p} {q} d e = let a = (replay_stops ks p).1 d in let b = (replay_stops ks q).1 e in cc
 
-  pub derives-or-stops : {ks t : List ℕ} {p : ℕ} → Derives g ks t → StopsAt g ks p → ⊥
-  derives-or-stops {ks} {t} {p} d e = derived-not-stopped (sym ((replay-exact ks t).1 d) ∙ (replay-stops ks p).1 e)
+  pub derives_or_stops : {ks t : List ℕ} {p : ℕ} → Derives g ks t → StopsAt g ks p → ⊥
+  derives_or_stops {ks} {t} {p} d e = derived_not_stopped (sym ((replay_exact ks t).1 d) ∙ (replay_stops ks p).1 e)

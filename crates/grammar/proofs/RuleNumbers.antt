@@ -10,25 +10,25 @@ use mathlib.Core.List.{List, [], ◌∷◌}
 use mathlib.Core.Option.{some}
 use lib.ListN.{length, get_elem?}
 use Rattle.grammar.specs.Words.{Grammar, ◌⟶◌, RuleAt, R}
-use Rattle.grammar.proofs.ConstructorsDiffer.{none-not-some}
+use Rattle.grammar.proofs.ConstructorsDiffer.{none_not_some}
 use Rattle.grammar.proofs.Places.{ElementOrNone, element?}
 
 -- two rules of one number have the same left side and the same right side
-pub rule-left : {g : Grammar} {k k' A A' : ℕ} {w w' : List ℕ} → k ≡ k' → RuleAt g k A w → RuleAt g k' A' w' → A ≡ A'
-rule-left e r r' = cc (e, r.stands, r'.stands)
+pub rule_left : {g : Grammar} {k k' A A' : ℕ} {w w' : List ℕ} → k ≡ k' → RuleAt g k A w → RuleAt g k' A' w' → A ≡ A'
+rule_left e r r' = cc (e, r.stands, r'.stands)
 
-pub rule-right : {g : Grammar} {k k' A A' : ℕ} {w w' : List ℕ} → k ≡ k' → RuleAt g k A w → RuleAt g k' A' w' → w ≡ w'
-rule-right e r r' = cc (e, r.stands, r'.stands)
+pub rule_right : {g : Grammar} {k k' A A' : ℕ} {w w' : List ℕ} → k ≡ k' → RuleAt g k A w → RuleAt g k' A' w' → w ≡ w'
+rule_right e r r' = cc (e, r.stands, r'.stands)
 
 -- what stands in a list stands below its length
-pub rule-below : {X : Type 0} (rs : List X) (k : ℕ) (ρ : X) → get_elem? rs k ≡ some ρ → k < length rs
-rule-below [] k ρ e = absurd (none-not-some e)
-rule-below (σ ∷ rs) zero ρ e = omega arith
-rule-below (σ ∷ rs) (suc k) ρ e = let l = rule-below rs k ρ e in omega arith
+pub rule_below : {X : Type 0} (rs : List X) (k : ℕ) (ρ : X) → get_elem? rs k ≡ some ρ → k < length rs
+rule_below [] k ρ e = absurd (none_not_some e)
+rule_below (σ ∷ rs) zero ρ e = omega arith
+rule_below (σ ∷ rs) (suc k) ρ e = let l = rule_below rs k ρ e in omega arith
 
 -- the number of a rule is below R
-pub rule-number : {g : Grammar} {k A : ℕ} {w : List ℕ} → RuleAt g k A w → k < R g
-rule-number {g} {k} {A} {w} r = rule-below g.rules k (A ⟶ w) r.stands
+pub rule_number : {g : Grammar} {k A : ℕ} {w : List ℕ} → RuleAt g k A w → k < R g
+rule_number {g} {k} {A} {w} r = rule_below g.rules k (A ⟶ w) r.stands
 
 abbrev pub RuleOrNone : Grammar → ℕ → Type 0
 RuleOrNone g k = ((A : ℕ) × (w : List ℕ) × RuleAt g k A w) ⊎ ((A : ℕ) (w : List ℕ) → RuleAt g k A w → ⊥)
@@ -53,17 +53,17 @@ pub record OfRule (g : Grammar) (k : ℕ) (P : ℕ → List ℕ → Type 0) : Ty
   pub has : P A w
 
 -- is decided where P is
-pub of-rule? : (g : Grammar) (k : ℕ) (P : ℕ → List ℕ → Type 0) → ((A : ℕ) (w : List ℕ) → Dec (P A w)) → Dec (OfRule g k P)
-of-rule? g k P decide = go (rule? g k)
+pub of_rule? : (g : Grammar) (k : ℕ) (P : ℕ → List ℕ → Type 0) → ((A : ℕ) (w : List ℕ) → Dec (P A w)) → Dec (OfRule g k P)
+of_rule? g k P decide = go (rule? g k)
   where
     go : RuleOrNone g k → Dec (OfRule g k P)
-    go (inr no-rule) = no (λ z. no-rule z.A z.w z.rule)
+    go (inr no_rule) = no (λ z. no_rule z.A z.w z.rule)
     go (inl (A, w, r)) = pick (decide A w)
       where
         pick : Dec (P A w) → Dec (OfRule g k P)
         pick (yes h) = yes (record { A = A; w = w; rule = r; has = h })
         pick (no n) =
             no (λ z.
-            let e : z.A ≡ A = rule-left refl z.rule r in
-            let e' : z.w ≡ w = rule-right refl z.rule r in
+            let e : z.A ≡ A = rule_left refl z.rule r in
+            let e' : z.w ≡ w = rule_right refl z.rule r in
             n (rw (e, e') at z.has))

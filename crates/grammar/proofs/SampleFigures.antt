@@ -11,11 +11,11 @@ use Rattle.grammar.specs.Terms.{measure}
 use Rattle.grammar.specs.Least.{Least, Chosen}
 use Rattle.grammar.proofs.LayoutExact.{in_bounds}
 use Rattle.grammar.specs.Replaying.{replay, replayed, stepped, complete?}
-use Rattle.grammar.proofs.Replay.{replay-stops}
-use Rattle.grammar.specs.Certificates.{symbolSize, word_size, othersSize, Figures, AreFigures}
+use Rattle.grammar.proofs.Replay.{replay_stops}
+use Rattle.grammar.specs.Certificates.{symbol_size, word_size, others_size, Figures, AreFigures}
 use Rattle.grammar.proofs.FigureTest.{figures}
-use Rattle.grammar.specs.Samples.{D, D-words, empty-rule, loop}
-use Rattle.grammar.proofs.ASampleOfWords.{D-reads}
+use Rattle.grammar.specs.Samples.{D, D_words, empty_rule, loop}
+use Rattle.grammar.proofs.ASampleOfWords.{D_reads}
 
 -- figures, each kind a list
 abbrev pub listed : (leasts chosen contexts rules places totals : List ℕ) → Figures measure
@@ -29,26 +29,26 @@ listed leasts chosen contexts rules places totals = record {
 }
 
 -- "tables of D: 3 0 0 65535 65535, 2 3 1 0 0, 1 4 3 2 0, then 3 7 4 3 4 5"
-abbrev pub D-listed : Figures measure
-D-listed =
+abbrev pub D_listed : Figures measure
+D_listed =
     listed (3 ∷ 2 ∷ 1 ∷ []) (0 ∷ 3 ∷ 4 ∷ []) (0 ∷ 1 ∷ 3 ∷ []) (65535 ∷ 0 ∷ 2 ∷ []) (65535 ∷ 0 ∷ 0 ∷ [])
     (3 ∷ 7 ∷ 4 ∷ 3 ∷ 4 ∷ 5 ∷ [])
 
-pub D-figures : AreFigures measure D D-listed
-unfolding word_size symbolSize othersSize
-D-figures = figures D D-listed refl (in_bounds D-words D-reads)
+pub D_figures : AreFigures measure D D_listed
+unfolding word_size symbol_size others_size
+D_figures = figures D D_listed refl (in_bounds D_words D_reads)
 
 -- "words 1 0 0 0 0: table 1 0 0 65535 65535 1"
-empty-reads : layout (1 ∷ 0 ∷ 0 ∷ 0 ∷ 0 ∷ []) ≡ reads empty-rule
+empty_reads : layout (1 ∷ 0 ∷ 0 ∷ 0 ∷ 0 ∷ []) ≡ reads empty_rule
 unfolding layout lefts
-empty-reads = refl
+empty_reads = refl
 
-abbrev pub empty-listed : Figures measure
-empty-listed = listed (1 ∷ []) (0 ∷ []) (0 ∷ []) (65535 ∷ []) (65535 ∷ []) (1 ∷ [])
+abbrev pub empty_listed : Figures measure
+empty_listed = listed (1 ∷ []) (0 ∷ []) (0 ∷ []) (65535 ∷ []) (65535 ∷ []) (1 ∷ [])
 
-pub empty-figures : AreFigures measure empty-rule empty-listed
-unfolding word_size symbolSize othersSize
-empty-figures = figures empty-rule empty-listed refl (in_bounds _ empty-reads)
+pub empty_figures : AreFigures measure empty_rule empty_listed
+unfolding word_size symbol_size others_size
+empty_figures = figures empty_rule empty_listed refl (in_bounds _ empty_reads)
 
 -- "words 1 1 0 0 1 0 0 1 1: table 2 1 0 65535 65535 3 2"
 -- "Choosing the lowest rule by tokens alone: S gives S, S gives a, then opens S for ever."
@@ -56,28 +56,28 @@ loop-reads : layout (1 ∷ 1 ∷ 0 ∷ 0 ∷ 1 ∷ 0 ∷ 0 ∷ 1 ∷ 1 ∷ []) �
 unfolding layout lefts
 loop-reads = refl
 
-abbrev pub loop-listed : Figures measure
-loop-listed = listed (2 ∷ []) (1 ∷ []) (0 ∷ []) (65535 ∷ []) (65535 ∷ []) (3 ∷ 2 ∷ [])
+abbrev pub loop_listed : Figures measure
+loop_listed = listed (2 ∷ []) (1 ∷ []) (0 ∷ []) (65535 ∷ []) (65535 ∷ []) (3 ∷ 2 ∷ [])
 
-pub loop-figures : AreFigures measure loop loop-listed
-unfolding word_size symbolSize othersSize
-loop-figures = figures loop loop-listed refl (in_bounds _ loop-reads)
+pub loop_figures : AreFigures measure loop loop_listed
+unfolding word_size symbol_size others_size
+loop_figures = figures loop loop_listed refl (in_bounds _ loop-reads)
 
-pub loop-least : Least measure loop 0 2
-loop-least = loop-figures.leasts 0 (omega arith)
+pub loop_least : Least measure loop 0 2
+loop_least = loop_figures.leasts 0 (omega arith)
 
-pub loop-chosen : Chosen measure loop 0 1
-loop-chosen = loop-figures.chosens 0 (omega arith)
+pub loop_chosen : Chosen measure loop 0 1
+loop_chosen = loop_figures.chosens 0 (omega arith)
 
 -- "replay 0 2 over D: 11 at 2", "replay 0 3 3 over D: 11 at 2", "replay of the empty list over D: 11 at 0"
 pub ends_open : StopsAt D (0 ∷ 2 ∷ []) 2
 unfolding replay replayed stepped complete?
-ends_open = (replay-stops D (0 ∷ 2 ∷ []) 2).0 refl
+ends_open = (replay_stops D (0 ∷ 2 ∷ []) 2).0 refl
 
-pub goes-past : StopsAt D (0 ∷ 3 ∷ 3 ∷ []) 2
+pub goes_past : StopsAt D (0 ∷ 3 ∷ 3 ∷ []) 2
 unfolding replay replayed stepped complete?
-goes-past = (replay-stops D (0 ∷ 3 ∷ 3 ∷ []) 2).0 refl
+goes_past = (replay_stops D (0 ∷ 3 ∷ 3 ∷ []) 2).0 refl
 
-pub never-begins : StopsAt D [] 0
+pub never_begins : StopsAt D [] 0
 unfolding replay replayed stepped complete?
-never-begins = (replay-stops D [] 0).0 refl
+never_begins = (replay_stops D [] 0).0 refl

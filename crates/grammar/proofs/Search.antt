@@ -43,8 +43,8 @@ module _ (P Q : ℕ → Type 0) (n : ℕ) (each : (i : ℕ) → i < n → Q i �
       go (inl all) (inl q) = inl (below_suc Q q all)
       go (inl all) (inr p) = inr (m, p, all)
 
-  pub all-or-lowest : ((i : ℕ) → i < n → Q i) ⊎ ((k : ℕ) × Lowest P k)
-  all-or-lowest = go (so_far n (omega arith))
+  pub all_or_lowest : ((i : ℕ) → i < n → Q i) ⊎ ((k : ℕ) × Lowest P k)
+  all_or_lowest = go (so_far n (omega arith))
     where
       not_lower : (k : ℕ) → ((i : ℕ) → i < k → Q i) → (j : ℕ) → P j → Dec (j < k) → k ≤ j
       not_lower k all j p (yes l) = absurd (apart j (all j l) p)
@@ -57,7 +57,7 @@ module _ (P Q : ℕ → Type 0) (n : ℕ) (each : (i : ℕ) → i < n → Q i �
 module _ (P : ℕ → Type 0) (decide : (j : ℕ) → Dec (P j)) where
   -- whether some number below n has it
   pub some_below : (n : ℕ) → Dec ((i : ℕ) × (i < n) × P i)
-  some_below n = go (all-or-lowest (λ i. (i < n) × P i) (λ i. ¬ P i) n (λ i l. each i l (decide i)) (λ i not-i z. not-i z.1))
+  some_below n = go (all_or_lowest (λ i. (i < n) × P i) (λ i. ¬ P i) n (λ i l. each i l (decide i)) (λ i not-i z. not-i z.1))
     where
       each : (i : ℕ) → i < n → Dec (P i) → (¬ P i) ⊎ ((i < n) × P i)
       each i l (yes p) = inr (l, p)
@@ -69,7 +69,7 @@ module _ (P : ℕ → Type 0) (decide : (j : ℕ) → Dec (P j)) where
 
   -- a property that some number has, a lowest number has
   pub lowest : (n : ℕ) → P n → (k : ℕ) × Lowest P k
-  lowest n h = go (all-or-lowest P (λ i. ¬ P i) (suc n) (λ i l. each i (decide i)) (λ i not-i p. not-i p))
+  lowest n h = go (all_or_lowest P (λ i. ¬ P i) (suc n) (λ i l. each i (decide i)) (λ i not-i p. not-i p))
     where
       each : (i : ℕ) → Dec (P i) → (¬ P i) ⊎ P i
       each i (yes p) = inr p
@@ -84,15 +84,15 @@ pub upto : ℕ → List ℕ
 upto zero = []
 upto (suc n) = n ∷ upto n
 
-pub in-upto : (n A : ℕ) → A < n → A ∈ upto n
+pub in_upto : (n A : ℕ) → A < n → A ∈ upto n
 unfolding upto
-in-upto zero A l = absurd (omega arith)
-in-upto (suc n) A l =
-    below_suc (λ B. B ∈ (n ∷ upto n)) (Memᴰ.head refl) (λ B below. Memᴰ.tail (in-upto n B below)) A l
+in_upto zero A l = absurd (omega arith)
+in_upto (suc n) A l =
+    below_suc (λ B. B ∈ (n ∷ upto n)) (Memᴰ.head refl) (λ B below. Memᴰ.tail (in_upto n B below)) A l
 
 -- what is so of x and of all of xs is so of all of x ∷ xs
-pub in-cons : {x : ℕ} {xs : List ℕ} (P : ℕ → Type 0) → P x → ((B : ℕ) → B ∈ xs → P B) → (B : ℕ) → B ∈ (x ∷ xs) → P B
-in-cons {x} {xs} P first later B m = go (Memᴰ.cases_cons m)
+pub in_cons : {x : ℕ} {xs : List ℕ} (P : ℕ → Type 0) → P x → ((B : ℕ) → B ∈ xs → P B) → (B : ℕ) → B ∈ (x ∷ xs) → P B
+in_cons {x} {xs} P first later B m = go (Memᴰ.cases_cons m)
   where
     go : (B ≡ x) ⊎ B ∈ xs → P B
     go (inl e) = rw e first
@@ -106,7 +106,7 @@ member? i (k ∷ ks) = go (ℕ_discrete i k) (member? i ks)
     go : Dec (i ≡ k) → Dec (i ∈ ks) → Dec (i ∈ (k ∷ ks))
     go (yes e) m = yes (Memᴰ.head e)
     go (no n) (yes m) = yes (Memᴰ.tail m)
-    go (no n) (no m) = no (λ h. in-cons (λ B. ¬ (i ≡ B)) n (λ B b e. m (rw e b)) i h refl)
+    go (no n) (no m) = no (λ h. in_cons (λ B. ¬ (i ≡ B)) n (λ B b e. m (rw e b)) i h refl)
 
 -- a list of numbers without A
 pub record Except (A : ℕ) (xs : List ℕ) : Type 0 where
@@ -129,7 +129,7 @@ except A [] = record {
 except A (x ∷ xs) = go (ℕ_discrete x A) (except A xs)
   where
     later : (B : ℕ) → B ∈ (x ∷ xs) → ¬ (B ≡ x) → B ∈ xs
-    later = in-cons (λ B. ¬ (B ≡ x) → B ∈ xs) (λ d. absurd (d refl)) (λ B m d. m)
+    later = in_cons (λ B. ¬ (B ≡ x) → B ∈ xs) (λ d. absurd (d refl)) (λ B m d. m)
 
     go : Dec (x ≡ A) → Except A xs → Except A (x ∷ xs)
     go (yes e) z = record {
@@ -137,16 +137,16 @@ except A (x ∷ xs) = go (ℕ_discrete x A) (except A xs)
       no_longer = omega (arith, z.no_longer);
       shorter = λ m. omega (arith, z.no_longer);
       gone = z.gone;
-      kept = in-cons (λ B. ¬ (B ≡ A) → B ∈ z.list) (λ d. absurd (d e)) z.kept;
+      kept = in_cons (λ B. ¬ (B ≡ A) → B ∈ z.list) (λ d. absurd (d e)) z.kept;
       still = λ B m. Memᴰ.tail (z.still B m);
     }
     go (no d) z = record {
       list = x ∷ z.list;
       no_longer = omega (arith, z.no_longer);
       shorter = λ m. omega (arith, z.shorter (later A m (λ e. d (sym e))));
-      gone = λ m. in-cons (λ B. ¬ (B ≡ A)) d (λ B b e. z.gone (rw e at b)) A m refl;
-      kept = in-cons (λ B. ¬ (B ≡ A) → B ∈ (x ∷ z.list)) (λ n. Memᴰ.head refl) (λ B m n. Memᴰ.tail (z.kept B m n));
-      still = in-cons (λ B. B ∈ (x ∷ xs)) (Memᴰ.head refl) (λ B m. Memᴰ.tail (z.still B m));
+      gone = λ m. in_cons (λ B. ¬ (B ≡ A)) d (λ B b e. z.gone (rw e at b)) A m refl;
+      kept = in_cons (λ B. ¬ (B ≡ A) → B ∈ (x ∷ z.list)) (λ n. Memᴰ.head refl) (λ B m n. Memᴰ.tail (z.kept B m n));
+      still = in_cons (λ B. B ∈ (x ∷ xs)) (Memᴰ.head refl) (λ B m. Memᴰ.tail (z.still B m));
     }
 
 -- a list of numbers, one of them taken out
@@ -166,12 +166,12 @@ without A xs m = (z.list, record { shorter = z.shorter m; others = λ B n. other
     others B n (no d) = inr (λ h. n (z.kept B h d))
 
 module _ (c : Cost) where
-  open c use {C, ◌≼◌, le_trans, le_antisym, le_total, le-dec}
+  open c use {C, ◌≼◌, le_trans, le_antisym, le_total, le_dec}
 
   infix 40 ◌≼◌
   -- whether two costs are equal is decided
   pub equal? : (x y : C) → Dec (x ≡ y)
-  equal? x y = go (le-dec x y) (le-dec y x)
+  equal? x y = go (le_dec x y) (le_dec y x)
     where
       go : Dec (x ≼ y) → Dec (y ≼ x) → Dec (x ≡ y)
       go (yes a) (yes b) = yes (le_antisym a b)
@@ -194,9 +194,9 @@ module _ (c : Cost) where
 
   module _ (F : ℕ → C → Type 0) (best : (k : ℕ) → Best (F k)) where
     -- an offer that is at most every offer of n and of the numbers below
-    smallest-suc : {n k : ℕ} (x : C) → F k x → ((y : C) → F n y → x ≼ y) → ((j : ℕ) (y : C) → j < n → F j y → x ≼ y) →
+    smallest_suc : {n k : ℕ} (x : C) → F k x → ((y : C) → F n y → x ≼ y) → ((j : ℕ) (y : C) → j < n → F j y → x ≼ y) →
         Smallest F (suc n)
-    smallest-suc {k = k} x offers last before = record {
+    smallest_suc {k = k} x offers last before = record {
       who = k;
       cost = x;
       offers = offers;
@@ -207,10 +207,10 @@ module _ (c : Cost) where
     extend n (inl z) (inl s) = inl (pick (le_total z.0 s.cost))
       where
         pick : (z.0 ≼ s.cost) ⊎ (s.cost ≼ z.0) → Smallest F (suc n)
-        pick (inl le) = smallest-suc z.0 z.1 z.2 (λ j y l f. le_trans le (s.below j y l f))
-        pick (inr le) = smallest-suc s.cost s.offers (λ y f. le_trans le (z.2 y f)) s.below
-    extend n (inl z) (inr no_one) = inl (smallest-suc z.0 z.1 z.2 (λ j y l f. absurd (no_one j y l f)))
-    extend n (inr none) (inl s) = inl (smallest-suc s.cost s.offers (λ y f. absurd (none y f)) s.below)
+        pick (inl le) = smallest_suc z.0 z.1 z.2 (λ j y l f. le_trans le (s.below j y l f))
+        pick (inr le) = smallest_suc s.cost s.offers (λ y f. le_trans le (z.2 y f)) s.below
+    extend n (inl z) (inr no_one) = inl (smallest_suc z.0 z.1 z.2 (λ j y l f. absurd (no_one j y l f)))
+    extend n (inr none) (inl s) = inl (smallest_suc s.cost s.offers (λ y f. absurd (none y f)) s.below)
     extend n (inr none) (inr no_one) =
         inr (λ j y l f. below_suc (λ i. (z : C) → F i z → ⊥) none (λ i m z. no_one i z m) j l y f)
 

@@ -26,13 +26,13 @@ use Rattle.grammar.proofs.Search.{member?, Without, without, Smallest, NoOffer, 
 pub put : {X : Type 0} → ℕ → X → (ℕ → X) → ℕ → X
 put A m v B = either (eqb B A) m (v B)
 
-pub put-here : {X : Type 0} (A B : ℕ) (m : X) (v : ℕ → X) → B ≡ A → put A m v B ≡ m
+pub put_here : {X : Type 0} (A B : ℕ) (m : X) (v : ℕ → X) → B ≡ A → put A m v B ≡ m
 unfolding put
-put-here A B m v e = rw (eq-eqb B A e)
+put_here A B m v e = rw (eq-eqb B A e)
 
-pub put-there : {X : Type 0} (A B : ℕ) (m : X) (v : ℕ → X) → ¬ (B ≡ A) → put A m v B ≡ v B
+pub put_there : {X : Type 0} (A B : ℕ) (m : X) (v : ℕ → X) → ¬ (B ≡ A) → put A m v B ≡ v B
 unfolding put
-put-there A B m v n = rw (ne_eqb B A n)
+put_there A B m v n = rw (ne_eqb B A n)
 
 module _ (c : Cost) (n : ℕ) (first : List ℕ) (Figure : ℕ → c.C → Type 0) where
   open c use {C}
@@ -54,24 +54,24 @@ module _ (c : Cost) (n : ℕ) (first : List ℕ) (Figure : ℕ → c.C → Type 
     pub record Halt : Type 0 where
       pub todo : List ℕ
       pub state : Settled todo
-      pub no-offer : NoOffer c (Made todo state) m
+      pub no_offer : NoOffer c (Made todo state) m
 
     -- each k makes a smallest offer or none, and the smallest of all is right
     pub record Fair : Type 0 where
       pub best : (todo : List ℕ) (state : Settled todo) (k : ℕ) → Best c (Made todo state k)
       pub meets : (todo : List ℕ) (state : Settled todo) (s : Smallest c (Made todo state) m) → Figure s.offers.to s.cost
 
-    settle-one : {todo rest : List ℕ} {A : ℕ} {x : C} → Settled todo → Figure A x → Without A todo rest → Settled rest
-    settle-one {todo} {A = A} {x = x} state is z = record {
+    settle_one : {todo rest : List ℕ} {A : ℕ} {x : C} → Settled todo → Figure A x → Without A todo rest → Settled rest
+    settle_one {todo} {A = A} {x = x} state is z = record {
       figures = put A x state.figures;
       among = λ B b. state.among B (z.still B b);
       right = λ B lt n. go B lt (ℕ_discrete B A) (z.others B n);
     }
       where
         go : (B : ℕ) → B < n → Dec (B ≡ A) → (B ≡ A) ⊎ (¬ (B ∈ todo)) → Figure B (put A x state.figures B)
-        go B lt (yes e) h = rw (put-here A B x state.figures e, e) is
+        go B lt (yes e) h = rw (put_here A B x state.figures e, e) is
         go B lt (no d) (inl e) = absurd (d e)
-        go B lt (no d) (inr k) = rw (put-there A B x state.figures d) (state.right B lt k)
+        go B lt (no d) (inr k) = rw (put_there A B x state.figures d) (state.right B lt k)
 
     abbrev States : Type 0
     States = (todo : List ℕ) × Settled todo
@@ -86,12 +86,12 @@ module _ (c : Cost) (n : ℕ) (first : List ℕ) (Figure : ℕ → c.C → Type 
             go : Smallest c (Made z.0 z.1) m ⊎ NoOffer c (Made z.0 z.1) m → Halt
             go (inl s) =
                 let (rest, out) = without s.offers.to z.0 s.offers.unsettled in
-                again (rest, settle-one z.1 (fair.meets z.0 z.1 s) out) out.shorter
-            go (inr none) = record { todo = z.0; state = z.1; no-offer = none }
+                again (rest, settle_one z.1 (fair.meets z.0 z.1 s) out) out.shorter
+            go (inr none) = record { todo = z.0; state = z.1; no_offer = none }
 
     -- in the end each number has its figure or is left over
-    pub settled-or-left : (h : Halt) (A : ℕ) → A < n → Figure A (h.state.figures A) ⊎ A ∈ h.todo
-    settled-or-left h A lt = go (member? A h.todo)
+    pub settled_or_left : (h : Halt) (A : ℕ) → A < n → Figure A (h.state.figures A) ⊎ A ∈ h.todo
+    settled_or_left h A lt = go (member? A h.todo)
       where
         go : Dec (A ∈ h.todo) → Figure A (h.state.figures A) ⊎ A ∈ h.todo
         go (yes left) = inr left

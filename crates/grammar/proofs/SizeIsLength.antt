@@ -8,21 +8,21 @@ use native.Mathlib.Omega.{arith}
 use lib.ListN.{length, length-append}
 use Rattle.grammar.specs.Words.{Grammar}
 use Rattle.grammar.specs.Tree.{Tree, Forest, node, nil, leaf, child, sentence, sentences, derivation, derivations}
-use Rattle.grammar.specs.Measure.{treeCost, forestCost}
+use Rattle.grammar.specs.Measure.{tree_cost, forest_cost}
 use Rattle.grammar.specs.Terms.{measure}
 
 module _ {g : Grammar} where
   mutual
-    unfolding treeCost
+    unfolding tree_cost
 
     -- SIZE: what a tree is measured by is what its listing takes
-    pub size-is-length : {A : ℕ} (t : Tree g A) → treeCost measure t ≡ length (sentence t) + length (derivation t)
-    size-is-length (node k r f) = omega (arith, sizes-are-lengths f)
+    pub size_is_length : {A : ℕ} (t : Tree g A) → tree_cost measure t ≡ length (sentence t) + length (derivation t)
+    size_is_length (node k r f) = omega (arith, sizes_are_lengths f)
 
-    sizes-are-lengths : {w : List ℕ} (f : Forest g w) → forestCost measure f ≡ length (sentences f) + length (derivations f)
-    sizes-are-lengths nil = refl
-    sizes-are-lengths (leaf p f) = omega (arith, sizes-are-lengths f)
-    sizes-are-lengths (child t f) =
+    sizes_are_lengths : {w : List ℕ} (f : Forest g w) → forest_cost measure f ≡ length (sentences f) + length (derivations f)
+    sizes_are_lengths nil = refl
+    sizes_are_lengths (leaf p f) = omega (arith, sizes_are_lengths f)
+    sizes_are_lengths (child t f) =
         let words = length-append (sentence t) (sentences f) in
         let numbers = length-append (derivation t) (derivations f) in
-        omega (arith, size-is-length t, sizes-are-lengths f)
+        omega (arith, size_is_length t, sizes_are_lengths f)

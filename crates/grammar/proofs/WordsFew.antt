@@ -6,16 +6,16 @@ use mathlib.Core.Path.{◌≡◌}
 use Prim.Native.Nat.{ℕ, ◌*◌, ◌≤◌}
 use native.Mathlib.Omega.{arith}
 use lib.ListN.{length, length-append}
-use Rattle.grammar.specs.Words.{Grammar, Rule, ◌⟶◌, ruleWords, rulesWords, words, RulesOk, InBounds, layout, reads}
-use Rattle.grammar.proofs.LayoutExact.{layout-exact}
+use Rattle.grammar.specs.Words.{Grammar, Rule, ◌⟶◌, rule_words, rules_words, words, RulesOk, InBounds, layout, reads}
+use Rattle.grammar.proofs.LayoutExact.{layout_exact}
 
-rules-few : (N T : ℕ) (rs : List Rule) → RulesOk N T rs → length (rulesWords rs) ≤ 34 * length rs
-rules-few N T [] ok = omega arith
-rules-few N T ((A ⟶ w) ∷ rs) ok =
+rules_few : (N T : ℕ) (rs : List Rule) → RulesOk N T rs → length (rules_words rs) ≤ 34 * length rs
+rules_few N T [] ok = omega arith
+rules_few N T ((A ⟶ w) ∷ rs) ok =
     let few = ok.0.1 in
-    omega (arith, rules-few N T rs ok.1, length-append (ruleWords (A ⟶ w)) (rulesWords rs))
+    omega (arith, rules_few N T rs ok.1, length-append (rule_words (A ⟶ w)) (rules_words rs))
 
-pub words-few : (ws : List ℕ) (g : Grammar) → layout ws ≡ reads g → length ws ≤ 8707
-words-few ws g e =
-    let h = (layout-exact ws g).0 e in
-    rw h.1 (omega (arith, rules-few g.N g.T g.rules h.0.rules-ok, h.0.at-most-256))
+pub words_few : (ws : List ℕ) (g : Grammar) → layout ws ≡ reads g → length ws ≤ 8707
+words_few ws g e =
+    let h = (layout_exact ws g).0 e in
+    rw h.1 (omega (arith, rules_few g.N g.T g.rules h.0.rules_ok, h.0.at_most_256))

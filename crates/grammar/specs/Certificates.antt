@@ -31,12 +31,12 @@ module _ (c : Cost) (g : Grammar) where
   infixl 60 ◌⊕◌
   infix 40 ◌≼◌
   -- a symbol's size and the sizes of some symbols, by figures for the nonterminals
-  unfoldable pub symbolSize : (ℕ → C) → ℕ → C
-  symbolSize v s = either (ltb s g.N) (v s) (tok s)
+  unfoldable pub symbol_size : (ℕ → C) → ℕ → C
+  symbol_size v s = either (ltb s g.N) (v s) (tok s)
 
   unfoldable pub word_size : (ℕ → C) → List ℕ → C
   word_size v [] = 𝟎
-  word_size v (s ∷ w) = symbolSize v s ⊕ word_size v w
+  word_size v (s ∷ w) = symbol_size v s ⊕ word_size v w
 
   -- v(A) is at most the size of each rule of A, and is that of one
   pub record LeastCertificate (v : ℕ → C) : Type 0 where
@@ -57,21 +57,21 @@ module _ (c : Cost) (g : Grammar) (v : ℕ → c.C) where
   infixl 60 ◌⊕◌
   infix 40 ◌≼◌
   -- the sizes of the symbols beside place i
-  unfoldable pub othersSize : List ℕ → ℕ → C
-  othersSize [] i = 𝟎
-  othersSize (s ∷ w) zero = word_size c g v w
-  othersSize (s ∷ w) (suc i) = symbolSize c g v s ⊕ othersSize w i
+  unfoldable pub others_size : List ℕ → ℕ → C
+  others_size [] i = 𝟎
+  others_size (s ∷ w) zero = word_size c g v w
+  others_size (s ∷ w) (suc i) = symbol_size c g v s ⊕ others_size w i
 
   -- some rule and place attain u(A)
   abbrev pub Attained : (ℕ → C) → ℕ → Type 0
   Attained u A =
-      (k : ℕ) × (B : ℕ) × (w : List ℕ) × (i : ℕ) × RuleAt g k B w × Holds w i A × (u A ≡ u B ⊕ (once ⊕ othersSize w i))
+      (k : ℕ) × (B : ℕ) × (w : List ℕ) × (i : ℕ) × RuleAt g k B w × Holds w i A × (u A ≡ u B ⊕ (once ⊕ others_size w i))
 
   -- u is 𝟎 at the start, u(A) is at most what each rule and place that hold A come to, and is one of these
   pub record ContextCertificate (u : ℕ → C) : Type 0 where
-    pub at-start : u g.start ≡ 𝟎
+    pub at_start : u g.start ≡ 𝟎
     pub below : (k B : ℕ) (w : List ℕ) (i A : ℕ) → RuleAt g k B w → Holds w i A → A < g.N →
-        u A ≼ u B ⊕ (once ⊕ othersSize w i)
+        u A ≼ u B ⊕ (once ⊕ others_size w i)
     pub attained : (A : ℕ) → A < g.N → ¬ (A ≡ g.start) → Attained u A
 
   -- each figure of u is the context of its nonterminal
@@ -102,30 +102,30 @@ module _ (c : Cost) (g : Grammar) (F : Figures c) where
   infixl 60 ◌⊕◌
   infix 40 ◌≼◌
   -- the size that the leasts give to a rule with this right side, and to all of it but one place
-  abbrev pub sizeBy : List ℕ → C
-  sizeBy w = once ⊕ word_size c g least w
+  abbrev pub size_by : List ℕ → C
+  size_by w = once ⊕ word_size c g least w
 
-  abbrev pub besideBy : List ℕ → ℕ → C
-  besideBy w i = once ⊕ othersSize c g least w i
+  abbrev pub beside_by : List ℕ → ℕ → C
+  beside_by w i = once ⊕ others_size c g least w i
 
   -- rule k is one of A and comes to A's least; rule k holds A at place i, and comes to A's context there
   abbrev pub Attains : ℕ → ℕ → Type 0
-  Attains A k = (w : List ℕ) × RuleAt g k A w × (least A ≡ sizeBy w)
+  Attains A k = (w : List ℕ) × RuleAt g k A w × (least A ≡ size_by w)
 
   abbrev pub Leads : ℕ → ℕ → ℕ → Type 0
-  Leads A k i = (B : ℕ) × (w : List ℕ) × RuleAt g k B w × Holds w i A × (context A ≡ context B ⊕ besideBy w i)
+  Leads A k i = (B : ℕ) × (w : List ℕ) × RuleAt g k B w × Holds w i A × (context A ≡ context B ⊕ beside_by w i)
 
   -- THE TESTS
   pub record FigureCertificate : Type 0 where
     -- no rule is smaller than the least of its left side; the chosen rule is as small, and the lowest such
-    pub least-below : (k A : ℕ) (w : List ℕ) → RuleAt g k A w → least A ≼ sizeBy w
-    pub chosen-attains : (A : ℕ) → A < g.N → Attains A (chosen A)
-    pub chosen-lowest : (k A : ℕ) (w : List ℕ) → RuleAt g k A w → least A ≡ sizeBy w → chosen A ≤ k
+    pub least_below : (k A : ℕ) (w : List ℕ) → RuleAt g k A w → least A ≼ size_by w
+    pub chosen_attains : (A : ℕ) → A < g.N → Attains A (chosen A)
+    pub chosen_lowest : (k A : ℕ) (w : List ℕ) → RuleAt g k A w → least A ≡ size_by w → chosen A ≤ k
     -- the context of the start is 0; no place gives less; the context rule and place give as much, and are the first that do
     pub context-start : context g.start ≡ 𝟎
-    pub context-below : (k B : ℕ) (w : List ℕ) (i A : ℕ) → RuleAt g k B w → Holds w i A → A < g.N →
-        context A ≼ context B ⊕ besideBy w i
-    pub choice-attains : (A : ℕ) → A < g.N → ¬ (A ≡ g.start) → Leads A (rule A) (place A)
-    pub choice-first : (k B : ℕ) (w : List ℕ) (i A : ℕ) → RuleAt g k B w → Holds w i A → A < g.N → ¬ (A ≡ g.start) →
-        context A ≡ context B ⊕ besideBy w i → (rule A < k) ⊎ ((rule A ≡ k) × (place A ≤ i))
-    pub totals : (r A : ℕ) (w : List ℕ) → RuleAt g r A w → total r ≡ context A ⊕ sizeBy w
+    pub context_below : (k B : ℕ) (w : List ℕ) (i A : ℕ) → RuleAt g k B w → Holds w i A → A < g.N →
+        context A ≼ context B ⊕ beside_by w i
+    pub choice_attains : (A : ℕ) → A < g.N → ¬ (A ≡ g.start) → Leads A (rule A) (place A)
+    pub choice_first : (k B : ℕ) (w : List ℕ) (i A : ℕ) → RuleAt g k B w → Holds w i A → A < g.N → ¬ (A ≡ g.start) →
+        context A ≡ context B ⊕ beside_by w i → (rule A < k) ⊎ ((rule A ≡ k) × (place A ≤ i))
+    pub totals : (r A : ℕ) (w : List ℕ) → RuleAt g r A w → total r ≡ context A ⊕ size_by w

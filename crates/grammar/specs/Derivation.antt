@@ -60,7 +60,7 @@ pub record L (g : Grammar) (t : List ℕ) : Type 0 where
 
 -- σ ⇒* γAβ ⇒ γαβ ⇒* t, where A ⟶ α is the rule of number k. Stricter than the thesis, which prints the middle arrow as ⇒*: its
 -- text ("each rule of the grammar is exercised") means that the rule is applied. One step implies the printed form
--- (`through-printed`).
+-- (`through_printed`).
 pub record Through (g : Grammar) (k : ℕ) (σ t : List ℕ) : Type 0 where
   pub A : ℕ
   pub α : List ℕ

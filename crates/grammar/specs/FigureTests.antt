@@ -8,7 +8,7 @@ use Rattle.std.proofs.Math.ListN.{get_elem?}
 use Rattle.grammar.specs.Words.{Grammar, Rule, ◌⟶◌}
 use Rattle.grammar.specs.Measure.{numbers}
 use Rattle.grammar.specs.Terms.{measure}
-use Rattle.grammar.specs.Certificates.{Figures, sizeBy, besideBy}
+use Rattle.grammar.specs.Certificates.{Figures, size_by, beside_by}
 
 -- x is below y, or they are equal and b: with x smallest, b is asked where it is attained
 abbrev pub firstly : ℕ → ℕ → Bool → Bool
@@ -33,37 +33,37 @@ module _ (tok : ℕ → ℕ) (g : Grammar) (F : Figures (numbers tok)) where
   open F use {least, chosen, context, rule, place, total}
 
   abbrev size : List ℕ → ℕ
-  size = sizeBy (numbers tok) g F
+  size = size_by (numbers tok) g F
 
   abbrev beside : List ℕ → ℕ → ℕ
-  beside = besideBy (numbers tok) g F
+  beside = beside_by (numbers tok) g F
 
   -- at place i of rule k, B ⟶ w, which holds A
-  abbrev pub place-test : ℕ → ℕ → List ℕ → ℕ → ℕ → Bool
-  place-test k B w i A = leb g.N A || firstly (context A) (context B + beside w i) (firstly (rule A) k (leb (place A) i))
+  abbrev pub place_test : ℕ → ℕ → List ℕ → ℕ → ℕ → Bool
+  place_test k B w i A = leb g.N A || firstly (context A) (context B + beside w i) (firstly (rule A) k (leb (place A) i))
 
-  abbrev pub rule-test : ℕ → Rule → Bool
-  rule-test k (B ⟶ w) =
-      firstly (least B) (size w) (leb (chosen B) k) && (eqb (total k) (context B + size w) && every (place-test k B w) w)
+  abbrev pub rule_test : ℕ → Rule → Bool
+  rule_test k (B ⟶ w) =
+      firstly (least B) (size w) (leb (chosen B) k) && (eqb (total k) (context B + size w) && every (place_test k B w) w)
 
   -- the rule of the choice is one of A, of the least size
-  abbrev pub chosen-test : ℕ → Rule → Bool
-  chosen-test A (B ⟶ w) = eqb B A && eqb (least A) (size w)
+  abbrev pub chosen_test : ℕ → Rule → Bool
+  chosen_test A (B ⟶ w) = eqb B A && eqb (least A) (size w)
 
   -- the rule of the context choice has A at the place, and comes to the context
   abbrev pub choice_test : ℕ → Rule → Bool
   choice_test A (B ⟶ w) =
       ltb B g.N && (there (eqb A) (get_elem? w (place A)) && eqb (context A) (context B + beside w (place A)))
 
-  abbrev pub chosen-passes : ℕ → Bool
-  chosen-passes A = there (chosen-test A) (get_elem? g.rules (chosen A))
+  abbrev pub chosen_passes : ℕ → Bool
+  chosen_passes A = there (chosen_test A) (get_elem? g.rules (chosen A))
 
-  abbrev pub choice-passes : ℕ → Bool
-  choice-passes A = eqb A g.start || there (choice_test A) (get_elem? g.rules (rule A))
+  abbrev pub choice_passes : ℕ → Bool
+  choice_passes A = eqb A g.start || there (choice_test A) (get_elem? g.rules (rule A))
 
-  abbrev pub figuresBy? : Bool
-  figuresBy? = eqb (context g.start) 0 && (every rule-test g.rules && each (λ A. chosen-passes A && choice-passes A) g.N)
+  abbrev pub figures_by? : Bool
+  figures_by? = eqb (context g.start) 0 && (every rule_test g.rules && each (λ A. chosen_passes A && choice_passes A) g.N)
 
 -- at document 01's measure, where a terminal counts 1
 abbrev pub figures? : (g : Grammar) → Figures measure → Bool
-figures? = figuresBy? (λ s. 1)
+figures? = figures_by? (λ s. 1)

@@ -4,9 +4,9 @@
 -- Assumes nothing.
 use Rattle.std.specs.Prelude.{ℕ, zero, suc, ◌+◌, ◌≤◌, ◌<◌, ◌≡◌, ◌⊎◌, List, [], ◌∷◌}
 use Rattle.grammar.specs.Words.{Grammar, RuleAt}
-use Rattle.grammar.specs.Tree.{Tree, Forest, node, nil, leaf, child, Gap, here, past-leaf, past-child, Open, root, down}
+use Rattle.grammar.specs.Tree.{Tree, Forest, node, nil, leaf, child, Gap, here, past_leaf, past_child, Open, root, down}
 use Rattle.grammar.specs.Tree.{plug}
-use Rattle.grammar.specs.Measure.{Cost, treeCost, openCost}
+use Rattle.grammar.specs.Measure.{Cost, tree_cost, open_cost}
 
 module _ (c : Cost) (g : Grammar) where
   open c use {C, 𝟎, ◌⊕◌, ◌≼◌, tok, once}
@@ -16,12 +16,12 @@ module _ (c : Cost) (g : Grammar) where
   -- "Least(A) is the smallest size of a complete tree rooted at A."
   pub record Least (A : ℕ) (x : C) : Type 0 where
     pub tree : Tree g A
-    pub costs : treeCost c tree ≡ x
-    pub smallest : (t : Tree g A) → x ≼ treeCost c t
+    pub costs : tree_cost c tree ≡ x
+    pub smallest : (t : Tree g A) → x ≼ tree_cost c t
 
   -- the sizes of some symbols together, "terminals counting 1 and nonterminals their least"
   pub data Sizes : List ℕ → C → Type 0 where
-    no-symbols : Sizes [] 𝟎
+    no_symbols : Sizes [] 𝟎
     terminal : {s : ℕ} {w : List ℕ} {x : C} → g.N ≤ s → Sizes w x → Sizes (s ∷ w) (tok s ⊕ x)
     nonterminal : {s : ℕ} {w : List ℕ} {y x : C} → s < g.N → Least s y → Sizes w x → Sizes (s ∷ w) (y ⊕ x)
 
@@ -43,14 +43,14 @@ module _ (c : Cost) (g : Grammar) where
   -- "Context(A) is the smallest size of a tree from the start with exactly one leaf A left open, that leaf counting 0."
   pub record Context (A : ℕ) (x : C) : Type 0 where
     pub tree : Open g A
-    pub costs : openCost c tree ≡ x
-    pub smallest : (t : Open g A) → x ≼ openCost c t
+    pub costs : open_cost c tree ≡ x
+    pub smallest : (t : Open g A) → x ≼ open_cost c t
 
   -- w holds the nonterminal A at place i, and x is "the sizes of the other symbols"
   pub data Beside : List ℕ → ℕ → ℕ → C → Type 0 where
     at_place : {A : ℕ} {w : List ℕ} {x : C} → A < g.N → Sizes w x → Beside (A ∷ w) 0 A x
-    past-terminal : {s i A : ℕ} {w : List ℕ} {x : C} → g.N ≤ s → Beside w i A x → Beside (s ∷ w) (suc i) A (tok s ⊕ x)
-    past-nonterminal : {s i A : ℕ} {w : List ℕ} {y x : C} → s < g.N → Least s y → Beside w i A x → Beside (s ∷ w) (suc i) A (y ⊕ x)
+    past_terminal : {s i A : ℕ} {w : List ℕ} {x : C} → g.N ≤ s → Beside w i A x → Beside (s ∷ w) (suc i) A (tok s ⊕ x)
+    past_nonterminal : {s i A : ℕ} {w : List ℕ} {y x : C} → s < g.N → Least s y → Beside w i A x → Beside (s ∷ w) (suc i) A (y ⊕ x)
 
   -- "over the rules of every nonterminal B and the places in them holding A, .. Context(B) + 1 + the sizes of the other symbols":
   -- rule k, of B, with A at place i, comes to x
@@ -93,8 +93,8 @@ module _ (c : Cost) (g : Grammar) where
 
   abbrev pub ChosenGap : {w : List ℕ} {i A : ℕ} → Gap g w i A → Type 0
   ChosenGap (here p f) = ChosenForest f
-  ChosenGap (past-leaf p a) = ChosenGap a
-  ChosenGap (past-child t a) = ChosenTree t × ChosenGap a
+  ChosenGap (past_leaf p a) = ChosenGap a
+  ChosenGap (past_child t a) = ChosenTree t × ChosenGap a
 
   -- the open leaf is reached by context choices, and every other nonterminal opened by its chosen rule
   abbrev pub ChosenOpen : {A : ℕ} → Open g A → Type 0

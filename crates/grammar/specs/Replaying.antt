@@ -19,14 +19,14 @@ before x none = none
 before x (some xs) = some (x ∷ xs)
 
 -- w where the test holds
-abbrev pub where-true : Bool → List ℕ → Option (List ℕ)
-where-true true w = some w
-where-true false w = none
+abbrev pub where_true : Bool → List ℕ → Option (List ℕ)
+where_true true w = some w
+where_true false w = none
 
 -- Aβ by a rule, if it is one of A
 abbrev pub opened : ℕ → List ℕ → Option Rule → Option (List ℕ)
 opened A β none = none
-opened A β (some (B ⟶ α)) = where-true (eqb A B) (α ++ β)
+opened A β (some (B ⟶ α)) = where_true (eqb A B) (α ++ β)
 
 -- at a symbol: a nonterminal is opened, a terminal passed
 abbrev pub at_symbol : Bool → ℕ → Option (List ℕ) → Option (List ℕ) → Option (List ℕ)

@@ -3,20 +3,20 @@
 -- relation. Number and place of each are crates/answers, specs/GrammarRefusals; what a row says of a grammar is Refusals.antt,
 -- and what row 7 compares with is a parameter here as there. Assumes nothing.
 use Rattle.std.specs.Prelude.{ℕ, ◌≡◌, List}
-use Rattle.answers.specs.GrammarRefusals.{GrammarRefusal, broken-layout, no-tree, unreached, oversize}
+use Rattle.answers.specs.GrammarRefusals.{GrammarRefusal, broken_layout, no_tree, unreached, oversize}
 use Rattle.grammar.specs.Words.{Grammar, layout, reads, faults}
 use Rattle.grammar.specs.Refusals.{Lowest, NoTree, AllTrees, Unreached, AllReached, Oversize}
 
 pub data GrammarRefused (limit : ℕ) (words : List ℕ) : GrammarRefusal → Type 0 where
   -- | 4 | words break the grammar layout | first offending word, or word count if they end early |
-  row-4 : {p : ℕ} → layout words ≡ faults p →
-      GrammarRefused limit words (broken-layout p)
+  row_4 : {p : ℕ} → layout words ≡ faults p →
+      GrammarRefused limit words (broken_layout p)
   -- | 5 | a nonterminal has no complete tree | lowest such |
-  row-5 : {g : Grammar} {A : ℕ} → layout words ≡ reads g → Lowest (NoTree g) A →
-      GrammarRefused limit words (no-tree A)
+  row_5 : {g : Grammar} {A : ℕ} → layout words ≡ reads g → Lowest (NoTree g) A →
+      GrammarRefused limit words (no_tree A)
   -- | 6 | a nonterminal occurs in no form derived from the start | lowest such |
-  row-6 : {g : Grammar} {A : ℕ} → layout words ≡ reads g → AllTrees g → Lowest (Unreached g) A →
+  row_6 : {g : Grammar} {A : ℕ} → layout words ≡ reads g → AllTrees g → Lowest (Unreached g) A →
       GrammarRefused limit words (unreached A)
   -- | 7 | some Total is above 4,096 | lowest such rule |
-  row-7 : {g : Grammar} {r : ℕ} → layout words ≡ reads g → AllTrees g → AllReached g → Lowest (Oversize limit g) r →
+  row_7 : {g : Grammar} {r : ℕ} → layout words ≡ reads g → AllTrees g → AllReached g → Lowest (Oversize limit g) r →
       GrammarRefused limit words (oversize r)

@@ -48,8 +48,8 @@ Uses k t = k ∈ derivation t
 -- trees of its other symbols
 pub data Gap (g : Grammar) : List ℕ → ℕ → ℕ → Type 0 where
   here : {A : ℕ} {w : List ℕ} → A < g.N → Forest g w → Gap g (A ∷ w) 0 A
-  past-leaf : {s i A : ℕ} {w : List ℕ} → g.N ≤ s → Gap g w i A → Gap g (s ∷ w) (suc i) A
-  past-child : {s i A : ℕ} {w : List ℕ} → Tree g s → Gap g w i A → Gap g (s ∷ w) (suc i) A
+  past_leaf : {s i A : ℕ} {w : List ℕ} → g.N ≤ s → Gap g w i A → Gap g (s ∷ w) (suc i) A
+  past_child : {s i A : ℕ} {w : List ℕ} → Tree g s → Gap g w i A → Gap g (s ∷ w) (suc i) A
 
 -- "a tree from the start with exactly one leaf A left open": that of the start itself, or one of B, and there a rule B ⟶ w with
 -- a gap
@@ -60,8 +60,8 @@ pub data Open (g : Grammar) : ℕ → Type 0 where
 -- the open leaf filled by a tree of A
 unfoldable pub fill : {g : Grammar} {w : List ℕ} {i A : ℕ} → Gap g w i A → Tree g A → Forest g w
 fill (here p f) t = child t f
-fill (past-leaf p a) t = leaf p (fill a t)
-fill (past-child u a) t = child u (fill a t)
+fill (past_leaf p a) t = leaf p (fill a t)
+fill (past_child u a) t = child u (fill a t)
 
 unfoldable pub plug : {g : Grammar} {A : ℕ} → Open g A → Tree g A → Tree g g.start
 plug root t = t

@@ -48,27 +48,27 @@ RulesOk N T (ρ ∷ rs) = RuleOk N T ρ × RulesOk N T rs
 
 -- the bounds of document 01
 pub record InBounds (g : Grammar) : Type 0 where
-  pub some-nonterminal : 1 ≤ g.N
+  pub some_nonterminal : 1 ≤ g.N
   pub nonterminals : g.N ≤ 128
   pub terminals : g.T ≤ 1024
-  pub start-below : g.start < g.N
-  pub at-most-256 : R g ≤ 256
-  pub rules-ok : RulesOk g.N g.T g.rules
+  pub start_below : g.start < g.N
+  pub at_most_256 : R g ≤ 256
+  pub rules_ok : RulesOk g.N g.T g.rules
 
 -- the words of a grammar
-abbrev pub ruleWords : Rule → List ℕ
-ruleWords (A ⟶ w) = A ∷ length w ∷ w
+abbrev pub rule_words : Rule → List ℕ
+rule_words (A ⟶ w) = A ∷ length w ∷ w
 
-abbrev pub rulesWords : List Rule → List ℕ
-rulesWords [] = []
-rulesWords (ρ ∷ rs) = ruleWords ρ ++ rulesWords rs
+abbrev pub rules_words : List Rule → List ℕ
+rules_words [] = []
+rules_words (ρ ∷ rs) = rule_words ρ ++ rules_words rs
 
 abbrev pub words : Grammar → List ℕ
-words g = g.N ∷ g.T ∷ g.start ∷ rulesWords g.rules
+words g = g.N ∷ g.T ∷ g.start ∷ rules_words g.rules
 
 -- the index of the left side of rule k: before it stand N, T, the start and the rules below k
 abbrev pub place_of : Grammar → ℕ → ℕ
-place_of g k = 3 + length (rulesWords (take k g.rules))
+place_of g k = 3 + length (rules_words (take k g.rules))
 
 -- What judging words gives: what they are, or the place where they break.
 pub data Judged (A : Type 0) : Type 0 where
@@ -88,17 +88,17 @@ abbrev pub no_symbol : Judged (List Rule) → Judged Body
 no_symbol (reads rs) = reads (body [] rs)
 no_symbol (faults p) = faults p
 
-abbrev pub with-symbol : ℕ → Judged Body → Judged Body
-with-symbol s (reads (body w rs)) = reads (body (s ∷ w) rs)
-with-symbol s (faults p) = faults p
+abbrev pub with_symbol : ℕ → Judged Body → Judged Body
+with_symbol s (reads (body w rs)) = reads (body (s ∷ w) rs)
+with_symbol s (faults p) = faults p
 
-abbrev pub with-left : ℕ → Judged Body → Judged (List Rule)
-with-left A (reads (body w rs)) = reads ((A ⟶ w) ∷ rs)
-with-left A (faults p) = faults p
+abbrev pub with_left : ℕ → Judged Body → Judged (List Rule)
+with_left A (reads (body w rs)) = reads ((A ⟶ w) ∷ rs)
+with_left A (faults p) = faults p
 
-abbrev pub with-head : ℕ → ℕ → ℕ → Judged (List Rule) → Judged Grammar
-with-head N T S (reads rs) = reads (record { N = N; T = T; start = S; rules = rs })
-with-head N T S (faults p) = faults p
+abbrev pub with_head : ℕ → ℕ → ℕ → Judged (List Rule) → Judged Grammar
+with_head N T S (reads rs) = reads (record { N = N; T = T; start = S; rules = rs })
+with_head N T S (faults p) = faults p
 
 -- "For 4 the words are judged from the left; a 257th rule is faulted at its left side."
 -- Each of these takes the words still to come, the place p of the first of them, how many rules may still begin, N and T.
@@ -107,7 +107,7 @@ unfoldable mutual
   pub lefts : List ℕ → ℕ → ℕ → ℕ → ℕ → Judged (List Rule)
   lefts [] p room N T = reads []
   lefts (w ∷ ws) p zero N T = faults p
-  lefts (w ∷ ws) p (suc room) N T = let r = with-left w (counts ws (suc p) room N T) in test (ltb w N) p r
+  lefts (w ∷ ws) p (suc room) N T = let r = with_left w (counts ws (suc p) room N T) in test (ltb w N) p r
 
   -- at a rule's count
   pub counts : List ℕ → ℕ → ℕ → ℕ → ℕ → Judged Body
@@ -118,8 +118,8 @@ unfoldable mutual
   -- at a symbol, after which k more are to come
   pub symbols : List ℕ → ℕ → ℕ → ℕ → ℕ → ℕ → Judged Body
   symbols [] k p room N T = faults p
-  symbols (w ∷ ws) zero p room N T = let r = with-symbol w (no_symbol (lefts ws (suc p) room N T)) in test (ltb w (N + T)) p r
-  symbols (w ∷ ws) (suc k) p room N T = let r = with-symbol w (symbols ws k (suc p) room N T) in test (ltb w (N + T)) p r
+  symbols (w ∷ ws) zero p room N T = let r = with_symbol w (no_symbol (lefts ws (suc p) room N T)) in test (ltb w (N + T)) p r
+  symbols (w ∷ ws) (suc k) p room N T = let r = with_symbol w (symbols ws k (suc p) room N T) in test (ltb w (N + T)) p r
 
 -- "first offending word, or word count if they end early"
 unfoldable pub layout : List ℕ → Judged Grammar
@@ -127,7 +127,7 @@ layout [] = faults 0
 layout (N ∷ []) = test (ltb 0 N && leb N 128) 0 (faults 1)
 layout (N ∷ T ∷ []) = test (ltb 0 N && leb N 128) 0 (test (leb T 1024) 1 (faults 2))
 layout (N ∷ T ∷ S ∷ ws) =
-    test (ltb 0 N && leb N 128) 0 (test (leb T 1024) 1 (test (ltb S N) 2 (with-head N T S (lefts ws 3 256 N T))))
+    test (ltb 0 N && leb N 128) 0 (test (leb T 1024) 1 (test (ltb S N) 2 (with_head N T S (lefts ws 3 256 N T))))
 
 -- the words are a grammar, of which P holds
 abbrev pub Are : List ℕ → (Grammar → Type 0) → Type 0
@@ -145,4 +145,4 @@ pub data FaultAt (ws : List ℕ) (p : ℕ) : Type 0 where
   -- up to the place p the words begin some grammar's, and with the word there they do not
   offends : p < length ws → Viable (take p ws) → ¬ Viable (take (suc p) ws) → FaultAt ws p
   -- they begin some grammar's, and are none's
-  ends-early : p ≡ length ws → Viable ws → ((G : Grammar) → InBounds G → ¬ (words G ≡ ws)) → FaultAt ws p
+  ends_early : p ≡ length ws → Viable ws → ((G : Grammar) → InBounds G → ¬ (words G ≡ ws)) → FaultAt ws p

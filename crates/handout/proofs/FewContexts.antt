@@ -9,15 +9,15 @@ use mathlib.Core.Path.{◌≡◌}
 use lib.Dec.{ltb}
 use borrow.Author.Tests.{lt-ltb, le-ltb}
 use Rattle.grammar.specs.Certificates.{either}
-use Rattle.handout.specs.Listing.{contextBy}
+use Rattle.handout.specs.Listing.{context_by}
 
 -- how many of the first m nonterminals have a context below x
 unfoldable pub lower : List ℕ → ℕ → ℕ → ℕ
 lower table zero x = 0
-lower table (suc m) x = lower table m x + either (ltb (contextBy table m) x) 1 0
+lower table (suc m) x = lower table m x + either (ltb (context_by table m) x) 1 0
 
-one-few : (c x : ℕ) → either (ltb c x) 1 0 ≤ 1
-one-few c x = go (dec_lt c x)
+one_few : (c x : ℕ) → either (ltb c x) 1 0 ≤ 1
+one_few c x = go (dec_lt c x)
   where
     go : Dec (c < x) → either (ltb c x) 1 0 ≤ 1
     go (yes p) = rw (lt-ltb c x p) (omega arith)
@@ -31,32 +31,32 @@ one_grows c x y h = go (dec_lt c x)
     go (no p) = rw (le-ltb c x (omega arith)) (omega arith)
 
 module _ (table : List ℕ) where
-  lower-few : (m x : ℕ) → lower table m x ≤ m
+  lower_few : (m x : ℕ) → lower table m x ≤ m
   unfolding lower
-  lower-few zero x = omega arith
-  lower-few (suc m) x = omega (arith, lower-few m x, one-few (contextBy table m) x)
+  lower_few zero x = omega arith
+  lower_few (suc m) x = omega (arith, lower_few m x, one_few (context_by table m) x)
 
-  lower-grows : (m x y : ℕ) → x ≤ y → lower table m x ≤ lower table m y
+  lower_grows : (m x y : ℕ) → x ≤ y → lower table m x ≤ lower table m y
   unfolding lower
-  lower-grows zero x y h = omega arith
-  lower-grows (suc m) x y h = omega (arith, lower-grows m x y h, one_grows (contextBy table m) x y h)
+  lower_grows zero x y h = omega arith
+  lower_grows (suc m) x y h = omega (arith, lower_grows m x y h, one_grows (context_by table m) x y h)
 
   -- one less is below a context than below a higher figure: that context itself
-  pub lower-falls : (m B x : ℕ) → B < m → contextBy table B < x → lower table m (contextBy table B) < lower table m x
+  pub lower_falls : (m B x : ℕ) → B < m → context_by table B < x → lower table m (context_by table B) < lower table m x
   unfolding lower
-  lower-falls zero B x l h = absurd (not-suc-le-zero l)
-  lower-falls (suc m) B x l h = go (λ k. lower-falls m B x k h) (ℕ_discrete B m)
+  lower_falls zero B x l h = absurd (not-suc-le-zero l)
+  lower_falls (suc m) B x l h = go (λ k. lower_falls m B x k h) (ℕ_discrete B m)
     where
-      go : (B < m → lower table m (contextBy table B) < lower table m x) → Dec (B ≡ m) →
-          lower table m (contextBy table B) + either (ltb (contextBy table m) (contextBy table B)) 1 0 <
-          lower table m x + either (ltb (contextBy table m) x) 1 0
+      go : (B < m → lower table m (context_by table B) < lower table m x) → Dec (B ≡ m) →
+          lower table m (context_by table B) + either (ltb (context_by table m) (context_by table B)) 1 0 <
+          lower table m x + either (ltb (context_by table m) x) 1 0
       go again (yes e) =
-          let here = contextBy table m in
-          let at_most = lower-grows m here x (omega (arith, rw e at h)) in
+          let here = context_by table m in
+          let at_most = lower_grows m here x (omega (arith, rw e at h)) in
           rw (e, le-ltb here here (omega arith), lt-ltb here x (rw e at h)) (omega (arith, at_most))
-      go again (no d) = omega (arith, again (omega arith), one_grows (contextBy table m) (contextBy table B) x (omega arith))
+      go again (no d) = omega (arith, again (omega arith), one_grows (context_by table m) (context_by table B) x (omega arith))
 
-  pub lower-within : (m A : ℕ) → A < m → lower table m (contextBy table A) < m
-  lower-within m A l =
-      let x = suc (contextBy table A) in
-      omega (arith, lower-falls m A x l (omega arith), lower-few m x)
+  pub lower_within : (m A : ℕ) → A < m → lower table m (context_by table A) < m
+  lower_within m A l =
+      let x = suc (context_by table A) in
+      omega (arith, lower_falls m A x l (omega arith), lower_few m x)

@@ -10,16 +10,16 @@ use Rattle.grammar.specs.Words.{Grammar, layout, reads}
 use Rattle.replay.specs.Replay.{Replay}
 use Rattle.replay.specs.declared.ReplayAnswer.{ReplayAnswer}
 use Rattle.replay.specs.declared.ReplayAnswer.TheVariants.{Done}
-use Rattle.replay.proofs.Main.{replay-done}
+use Rattle.replay.proofs.Main.{replay_done}
 use Rattle.handout.specs.Night.{Handout, Night, HandedOut}
-use Rattle.handout.proofs.NightProper.{night-proper}
-use Rattle.handout.proofs.NightCovers.{each-proper}
+use Rattle.handout.proofs.NightProper.{night_proper}
+use Rattle.handout.proofs.NightCovers.{each_proper}
 
 -- EACH REPLAYS
-pub handouts-replay : {words table marks : List ℕ} {hs : List Handout} {g : Grammar} → layout words ≡ reads g →
+pub handouts_replay : {words table marks : List ℕ} {hs : List Handout} {g : Grammar} → layout words ≡ reads g →
     Night words table hs marks → {r : ℕ} {t ks : List ℕ} → HandedOut hs r t ks →
     {before after : List ℕ} {a : ReplayAnswer} → length t ≤ length before → Replay words ks before a after →
     (a ≡ Done (length t)) × (after ≡ over t before)
-handouts-replay {g = g} e night {t = t} h room p =
-    let proper = (each-proper (night-proper e night) h).1 in
-    (replay-done p t).1 (g, e, (omega (arith, proper.limit), proper.derives, room))
+handouts_replay {g = g} e night {t = t} h room p =
+    let proper = (each_proper (night_proper e night) h).1 in
+    (replay_done p t).1 (g, e, (omega (arith, proper.limit), proper.derives, room))

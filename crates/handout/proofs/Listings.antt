@@ -6,34 +6,34 @@ use mathlib.Core.List.{List, [], ◌∷◌, ◌++◌, append_assoc, append-nil}
 use mathlib.Core.Path.{◌≡◌, refl, ap, sym, ◌∙◌}
 use lib.ListN.{length, get_or, take, drop, length-append, take-append-drop}
 use lib.Seq.{take-suc}
-use Rattle.answers.proofs.Stores.{sets-append}
+use Rattle.answers.proofs.Stores.{sets_append}
 use Rattle.grammar.specs.Words.{Grammar}
 use Rattle.grammar.specs.Tree.{Forest, nil, leaf, child, sentence, sentences, derivation, derivations}
 use Rattle.grammar.specs.Terms.{measure}
 use Rattle.grammar.specs.Least.{ChosenForest}
 use Rattle.handout.specs.declared.lister.Lengths.{Lengths}
-use Rattle.handout.specs.Listing.{sizeBy, sizesBy, SymbolListing, of-terminal, of-nonterminal, SymbolsListing}
+use Rattle.handout.specs.Listing.{size_by, sizes_by, SymbolListing, of_terminal, of_nonterminal, SymbolsListing}
 use Rattle.handout.specs.Listing.{Wrote}
 
 -- one after the other
 module _ {us vs us' vs' a b c x y z : List ℕ} {p q r : Lengths} where
   pub and_then : Wrote us vs a b x y p q → Wrote us' vs' b c y z q r → Wrote (us ++ us') (vs ++ vs') a c x z p r
   and_then h k = record {
-    more-tokens = omega (arith, h.more-tokens, k.more-tokens, length-append us us');
-    more-rules = omega (arith, h.more-rules, k.more-rules, length-append vs vs');
-    sentence = k.sentence ∙ rw (h.sentence, h.more-tokens) (sym (sets-append us us' a p.tokens));
-    derivation = k.derivation ∙ rw (h.derivation, h.more-rules) (sym (sets-append vs vs' x p.rules));
+    more_tokens = omega (arith, h.more_tokens, k.more_tokens, length-append us us');
+    more_rules = omega (arith, h.more_rules, k.more_rules, length-append vs vs');
+    sentence = k.sentence ∙ rw (h.sentence, h.more_tokens) (sym (sets_append us us' a p.tokens));
+    derivation = k.derivation ∙ rw (h.derivation, h.more_rules) (sym (sets_append vs vs' x p.rules));
   }
 
 pub nothing : (a x : List ℕ) (p : Lengths) → Wrote [] [] a a x x p p
-nothing a x p = record { more-tokens = omega arith; more-rules = omega arith; sentence = refl; derivation = refl }
+nothing a x p = record { more_tokens = omega arith; more_rules = omega arith; sentence = refl; derivation = refl }
 
 -- the symbols of w listed, and then one more
 module _ {g : Grammar} where
   pub one_more : {w : List ℕ} (f : Forest g w) {s : ℕ} {us vs : List ℕ} → ChosenForest measure g f → SymbolListing g s us vs →
       SymbolsListing g (w ++ s ∷ []) (sentences f ++ us) (derivations f ++ vs)
-  one_more nil h (of-terminal p) = record { forest = leaf p nil; chosen = h; tokens = refl; rules = refl }
-  one_more nil h (of-nonterminal t d) = record {
+  one_more nil h (of_terminal p) = record { forest = leaf p nil; chosen = h; tokens = refl; rules = refl }
+  one_more nil h (of_nonterminal t d) = record {
     forest = child t nil;
     chosen = (d, h);
     tokens = sym (append-nil (sentence t));
@@ -53,20 +53,20 @@ module _ {g : Grammar} where
 
 -- the sizes of symbols
 module _ (n : ℕ) (table : List ℕ) where
-  pub sizes-append : (u v : List ℕ) → sizesBy n table (u ++ v) ≡ sizesBy n table u + sizesBy n table v
-  unfolding sizesBy
-  sizes-append [] v = omega arith
-  sizes-append (s ∷ u) v = omega (arith, sizes-append u v)
+  pub sizes_append : (u v : List ℕ) → sizes_by n table (u ++ v) ≡ sizes_by n table u + sizes_by n table v
+  unfolding sizes_by
+  sizes_append [] v = omega arith
+  sizes_append (s ∷ u) v = omega (arith, sizes_append u v)
 
   -- one symbol more
-  pub sizes-more : (w : List ℕ) (i : ℕ) → i < length w →
-      sizesBy n table (take (i + 1) w) ≡ sizesBy n table (take i w) + sizeBy n table (get_or w i 0)
-  unfolding sizesBy
-  sizes-more w i h = rw (add-one i, take-suc w i 0 h) (omega (arith, sizes-append (take i w) (get_or w i 0 ∷ [])))
+  pub sizes_more : (w : List ℕ) (i : ℕ) → i < length w →
+      sizes_by n table (take (i + 1) w) ≡ sizes_by n table (take i w) + size_by n table (get_or w i 0)
+  unfolding sizes_by
+  sizes_more w i h = rw (add-one i, take-suc w i 0 h) (omega (arith, sizes_append (take i w) (get_or w i 0 ∷ [])))
 
   -- and it is among them all
-  pub sizes-within : (w : List ℕ) (i : ℕ) → i < length w →
-      sizesBy n table (take i w) + sizeBy n table (get_or w i 0) ≤ sizesBy n table w
-  sizes-within w i h =
-      let whole = ap (sizesBy n table) (take-append-drop (i + 1) w) in
-      omega (arith, whole, sizes-append (take (i + 1) w) (drop (i + 1) w), sizes-more w i h)
+  pub sizes_within : (w : List ℕ) (i : ℕ) → i < length w →
+      sizes_by n table (take i w) + size_by n table (get_or w i 0) ≤ sizes_by n table w
+  sizes_within w i h =
+      let whole = ap (sizes_by n table) (take-append-drop (i + 1) w) in
+      omega (arith, whole, sizes_append (take (i + 1) w) (drop (i + 1) w), sizes_more w i h)

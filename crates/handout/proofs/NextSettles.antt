@@ -13,16 +13,16 @@ use Rattle.grammar.specs.Tree.{Tree, sentence, derivation}
 use Rattle.grammar.specs.Terms.{measure, limit}
 use Rattle.grammar.specs.Least.{TreeOf}
 use Rattle.grammar.specs.Refusals.{Lowest}
-use Rattle.grammar.proofs.Unique.{lowest-unique}
-use Rattle.grammar.proofs.SameListing.{tree-of-same}
+use Rattle.grammar.proofs.Unique.{lowest_unique}
+use Rattle.grammar.proofs.SameListing.{tree_of_same}
 use Rattle.entries.specs.Table.{HasTable}
-use Rattle.marks.proofs.Main.{mark-rules-settles}
-use Rattle.answers.proofs.Gates.{Gate, stop, go, Settles, gate-settles}
-use Rattle.grammar.proofs.FirstRows.{OfAccepted, refused, accepted, accepted-settle}
-use Rattle.handout.specs.Answers.{Case, answer, next, finished, of_words, not-its-table, few-marks, too_short}
-use Rattle.handout.specs.Answers.{derivation-short}
+use Rattle.marks.proofs.Main.{mark_rules_settles}
+use Rattle.answers.proofs.Gates.{Gate, stop, go, Settles, gate_settles}
+use Rattle.grammar.proofs.FirstRows.{OfAccepted, refused, accepted, accepted_settle}
+use Rattle.handout.specs.Answers.{Case, answer, next, finished, of_words, not_its_table, few_marks, too_short}
+use Rattle.handout.specs.Answers.{derivation_short}
 use Rattle.handout.specs.Next.{NextPromise, Unused, AllUsed, Marked, Wanted, Lent}
-use Rattle.handout.specs.Next.{row-4-7, row-8, row-9, row-finished, row-3, row-10, row_next}
+use Rattle.handout.specs.Next.{row_4_7, row_8, row_9, row_finished, row_3, row_10, row_next}
 use Rattle.handout.specs.declared.NextAnswer.{NextAnswer}
 
 -- the target r, and the listing of its tree
@@ -40,14 +40,14 @@ listed {t = t} w = record { target = w.target; t = t; tree = w.tree; says = refl
 -- it is one
 module _ {g : Grammar} {marks s s' d d' : List ℕ} {r r' : ℕ} (a : TargetListing g marks r s d)
     (b : TargetListing g marks r' s' d') where
-  target-same : r ≡ r'
-  target-same = lowest-unique a.target b.target
+  target_same : r ≡ r'
+  target_same = lowest_unique a.target b.target
 
-  sentence-same : s ≡ s'
-  sentence-same = sym a.says ∙ (tree-of-same measure (rw target-same at a.tree) b.tree).sentences-same ∙ b.says
+  sentence_same : s ≡ s'
+  sentence_same = sym a.says ∙ (tree_of_same measure (rw target_same at a.tree) b.tree).sentences_same ∙ b.says
 
-  derivation-same : d ≡ d'
-  derivation-same = sym a.lists ∙ (tree-of-same measure (rw target-same at a.tree) b.tree).derivations-same ∙ b.lists
+  derivation_same : d ≡ d'
+  derivation_same = sym a.lists ∙ (tree_of_same measure (rw target_same at a.tree) b.tree).derivations_same ∙ b.lists
 
 module _ (words table : List ℕ) (before : Lent) where
   -- the answer and the three buffers afterwards
@@ -67,11 +67,11 @@ module _ (words table : List ℕ) (before : Lent) where
     fits : {r : ℕ} {s d : List ℕ} → TargetListing g before.marks r s d → length s ≤ length before.tokens → SentenceFits g
 
   data DerivationShort (g : Grammar) : ℕ → Type 0 where
-    short-rules : {r : ℕ} {s d : List ℕ} → TargetListing g before.marks r s d → length before.rules < length d →
+    short_rules : {r : ℕ} {s d : List ℕ} → TargetListing g before.marks r s d → length before.rules < length d →
         DerivationShort g (length d)
 
   data DerivationFits (g : Grammar) : Type 0 where
-    fit-rules : {r : ℕ} {s d : List ℕ} → TargetListing g before.marks r s d → length d ≤ length before.rules →
+    fit_rules : {r : ℕ} {s d : List ℕ} → TargetListing g before.marks r s d → length d ≤ length before.rules →
         DerivationFits g
 
   -- they are handed out
@@ -87,7 +87,7 @@ module _ (words table : List ℕ) (before : Lent) where
 
   -- the rows of an accepted grammar g as gates: 8, 9, Finished, 3, 10, next
   abbrev FromTen : Grammar → Out → Type 0
-  FromTen g = Gate (DerivationShort g) (DerivationFits g) (λ n. keeping (derivation-short n)) (NextRow g)
+  FromTen g = Gate (DerivationShort g) (DerivationFits g) (λ n. keeping (derivation_short n)) (NextRow g)
 
   abbrev FromThree : Grammar → Out → Type 0
   FromThree g = Gate (SentenceShort g) (SentenceFits g) (λ n. keeping (too_short n)) (FromTen g)
@@ -99,38 +99,38 @@ module _ (words table : List ℕ) (before : Lent) where
 
   abbrev FromNine : Grammar → Out → Type 0
   FromNine g =
-      Gate {X = Unit {0}} (λ x. length before.marks < R g) (R g ≤ length before.marks) (λ x. keeping (few-marks (R g)))
+      Gate {X = Unit {0}} (λ x. length before.marks < R g) (R g ≤ length before.marks) (λ x. keeping (few_marks (R g)))
       (FromFinished g)
 
   abbrev Rows : Grammar → Out → Type 0
-  Rows g = Gate {X = Unit {0}} (λ x. ¬ HasTable g table) (HasTable g table) (λ x. keeping not-its-table) (FromNine g)
+  Rows g = Gate {X = Unit {0}} (λ x. ¬ HasTable g table) (HasTable g table) (λ x. keeping not_its_table) (FromNine g)
 
-  short-unique : (g : Grammar) (n m : ℕ) → SentenceShort g n → SentenceShort g m → n ≡ m
-  short-unique g _ _ (short a h) (short b k) = ap length (sentence-same a b)
+  short_unique : (g : Grammar) (n m : ℕ) → SentenceShort g n → SentenceShort g m → n ≡ m
+  short_unique g _ _ (short a h) (short b k) = ap length (sentence_same a b)
 
-  short-apart : (g : Grammar) (n : ℕ) → SentenceShort g n → SentenceFits g → ⊥
-  short-apart g _ (short a h) (fits b k) = omega (arith, ap length (sentence-same a b))
+  short_apart : (g : Grammar) (n : ℕ) → SentenceShort g n → SentenceFits g → ⊥
+  short_apart g _ (short a h) (fits b k) = omega (arith, ap length (sentence_same a b))
 
-  rules-unique : (g : Grammar) (n m : ℕ) → DerivationShort g n → DerivationShort g m → n ≡ m
-  rules-unique g _ _ (short-rules a h) (short-rules b k) = ap length (derivation-same a b)
+  rules_unique : (g : Grammar) (n m : ℕ) → DerivationShort g n → DerivationShort g m → n ≡ m
+  rules_unique g _ _ (short_rules a h) (short_rules b k) = ap length (derivation_same a b)
 
-  rules-apart : (g : Grammar) (n : ℕ) → DerivationShort g n → DerivationFits g → ⊥
-  rules-apart g _ (short-rules a h) (fit-rules b k) = omega (arith, ap length (derivation-same a b))
+  rules_apart : (g : Grammar) (n : ℕ) → DerivationShort g n → DerivationFits g → ⊥
+  rules_apart g _ (short_rules a h) (fit_rules b k) = omega (arith, ap length (derivation_same a b))
 
-  next-row-settles : (g : Grammar) → Settles (NextRow g)
-  next-row-settles g _ _ (next_row {marks = m} a h) (next_row {marks = m'} b k) =
-      let same : m ≡ m' = mark-rules-settles h (rw (derivation-same a b) k) in
-      rw (target-same a b, sentence-same a b, derivation-same a b, same) refl
+  next_row_settles : (g : Grammar) → Settles (NextRow g)
+  next_row_settles g _ _ (next_row {marks = m} a h) (next_row {marks = m'} b k) =
+      let same : m ≡ m' = mark_rules_settles h (rw (derivation_same a b) k) in
+      rw (target_same a b, sentence_same a b, derivation_same a b, same) refl
 
-  rows-settle : (g : Grammar) → Settles (Rows g)
-  rows-settle g =
-      gate-settles {X = Unit {0}} (λ x. keeping not-its-table) (λ x y a b. refl) (λ x a b. a b)
-      (gate-settles {X = Unit {0}} (λ x. keeping (few-marks (R g))) (λ x y a b. refl) (λ x a b. omega arith)
-      (gate-settles {X = Unit {0}} (λ x. keeping finished) (λ x y a b. refl)
+  rows_settle : (g : Grammar) → Settles (Rows g)
+  rows_settle g =
+      gate_settles {X = Unit {0}} (λ x. keeping not_its_table) (λ x y a b. refl) (λ x a b. a b)
+      (gate_settles {X = Unit {0}} (λ x. keeping (few_marks (R g))) (λ x y a b. refl) (λ x a b. omega arith)
+      (gate_settles {X = Unit {0}} (λ x. keeping finished) (λ x y a b. refl)
       (λ x a b. a b.0 b.1.such.rule b.1.such.zero)
-      (gate-settles (λ n. keeping (too_short n)) (short-unique g) (short-apart g)
-      (gate-settles (λ n. keeping (derivation-short n)) (rules-unique g) (rules-apart g)
-      (next-row-settles g)))))
+      (gate_settles (λ n. keeping (too_short n)) (short_unique g) (short_apart g)
+      (gate_settles (λ n. keeping (derivation_short n)) (rules_unique g) (rules_apart g)
+      (next_row_settles g)))))
 
   abbrev refuse : GrammarRefusal → Out
   refuse x = keeping (of_words x)
@@ -141,17 +141,17 @@ module _ (words table : List ℕ) (before : Lent) where
   wanted {r = r} w z = accepted w.grammar w.accepted (go w.tabled (go w.marked (go (r, w.target) z)))
 
   rows : {a : NextAnswer} {after : Lent} → NextPromise words table before a after → OfAccepted limit words refuse Rows (a, after)
-  rows (row-4-7 x) = refused x
-  rows (row-8 e a n) = accepted e a (stop {x = tt} n)
-  rows (row-9 e a t l) = accepted e a (go t (stop {x = tt} l))
-  rows (row-finished e a t l u) = accepted e a (go t (go l (stop {x = tt} u)))
-  rows (row-3 w l) = wanted w (stop (short (listed w) l))
-  rows (row-10 w l m) = wanted w (go (fits (listed w) l) (stop (short-rules (listed w) m)))
-  rows (row_next w l m k) = wanted w (go (fits (listed w) l) (go (fit-rules (listed w) m) (next_row (listed w) k)))
+  rows (row_4_7 x) = refused x
+  rows (row_8 e a n) = accepted e a (stop {x = tt} n)
+  rows (row_9 e a t l) = accepted e a (go t (stop {x = tt} l))
+  rows (row_finished e a t l u) = accepted e a (go t (go l (stop {x = tt} u)))
+  rows (row_3 w l) = wanted w (stop (short (listed w) l))
+  rows (row_10 w l m) = wanted w (go (fits (listed w) l) (stop (short_rules (listed w) m)))
+  rows (row_next w l m k) = wanted w (go (fits (listed w) l) (go (fit_rules (listed w) m) (next_row (listed w) k)))
 
   -- AT MOST ONE
-  pub next-settles : {a a' : NextAnswer} {after after' : Lent} →
+  pub next_settles : {a a' : NextAnswer} {after after' : Lent} →
       NextPromise words table before a after → NextPromise words table before a' after' → (a ≡ a') × (after ≡ after')
-  next-settles {a} {a'} {after} {after'} x y =
-      let e = accepted-settle limit words refuse Rows rows-settle (a, after) (a', after') (rows x) (rows y) in
+  next_settles {a} {a'} {after} {after'} x y =
+      let e = accepted_settle limit words refuse Rows rows_settle (a, after) (a', after') (rows x) (rows y) in
       (ap (λ (o : Out). o.0) e, ap (λ (o : Out). o.1) e)

@@ -13,21 +13,21 @@ use Rattle.grammar.specs.Words.{Grammar}
 use Rattle.grammar.specs.Tree.{Open}
 use Rattle.grammar.specs.Terms.{measure}
 use Rattle.grammar.specs.Least.{ChosenOpen}
-use Rattle.entries.specs.Table.{ruleIn, place_in}
+use Rattle.entries.specs.Table.{rule_in, place_in}
 use Rattle.handout.specs.declared.lister.Lengths.{Lengths}
-use Rattle.handout.specs.Listing.{TableView, contextBy, SymbolsListed}
-use Rattle.handout.specs.TreeListing.{FrontReady, BackReady, backOf, FrontListed, upper, climbed, PathOf, before, after}
+use Rattle.handout.specs.Listing.{TableView, context_by, SymbolsListed}
+use Rattle.handout.specs.TreeListing.{FrontReady, BackReady, back_of, FrontListed, upper, climbed, PathOf, before, after}
 use Rattle.handout.specs.TreeListing.{SideReady, SideListed, ClimbReady}
-use Rattle.handout.proofs.FewContexts.{lower, lower-falls, lower-within}
-use Rattle.handout.proofs.TreeListerSteps.{Up, up, open-nonterminal, start-written, before-ready, front-ready}
-use Rattle.handout.proofs.TreeListerSteps.{before-written}
-use Rattle.handout.proofs.TreeListerSteps.{back-ready, after-ready, after-written}
+use Rattle.handout.proofs.FewContexts.{lower, lower_falls, lower_within}
+use Rattle.handout.proofs.TreeListerSteps.{Up, up, open_nonterminal, start_written, before-ready, front_ready}
+use Rattle.handout.proofs.TreeListerSteps.{before_written}
+use Rattle.handout.proofs.TreeListerSteps.{back_ready, after-ready, after_written}
 
 -- the context choices lead on from a, so many steps up from A, and by as many fewer contexts are lower
 pub record LedUp (table : List ℕ) (n : ℕ) (g : Grammar) (A steps a : ℕ) : Type 0 where
   pub above : Open g a
   pub follows : ChosenOpen measure g above
-  pub fallen : steps + lower table n (contextBy table a) ≤ lower table n (contextBy table A)
+  pub fallen : steps + lower table n (context_by table a) ≤ lower table n (context_by table A)
 
 -- what the climb keeps: a is so many steps up from A, and those below it stand on the path
 pub record OnWay (words places table : List ℕ) (start A : ℕ) (path : List ℕ) (a steps : ℕ) : Type 0 where
@@ -37,9 +37,9 @@ pub record OnWay (words places table : List ℕ) (start A : ℕ) (path : List �
   pub leads : (n : ℕ) (g : Grammar) → TableView words places table n g → start ≡ g.start → (x : Open g A) →
       ChosenOpen measure g x → LedUp table n g A steps a
 
-pub way-begins : (words places table : List ℕ) (start A : ℕ) (path : List ℕ) → OnWay words places table start A path A 0
+pub way_begins : (words places table : List ℕ) (start A : ℕ) (path : List ℕ) → OnWay words places table start A path A 0
 unfolding climbed
-way-begins words places table start A path = record {
+way_begins words places table start A path = record {
   here = refl;
   each = λ i l. absurd (omega arith);
   other = λ i l. absurd (omega arith);
@@ -59,8 +59,8 @@ module _ {words places table : List ℕ} {start A : ℕ} {path : List ℕ} {a st
     leads = λ n g known s x h.
         let so = way.leads n g known s x h in
         let u = up known so.above so.follows (λ q. d (q ∙ sym s)) _ _ b refl refl e in
-        let low : b < n = omega (arith, open-nonterminal known u.above, known.view.nonterminals) in
-        let less = lower-falls table n b _ low u.falls in
+        let low : b < n = omega (arith, open_nonterminal known u.above, known.view.nonterminals) in
+        let less = lower_falls table n b _ low u.falls in
         record { above = u.above; follows = u.follows; fallen = omega (arith, so.fallen, less) };
   }
     where
@@ -79,31 +79,31 @@ module _ {words places table : List ℕ} {start A : ℕ} {path : List ℕ} {a st
 
   module _ {path₀ : List ℕ} (ready : ClimbReady words places table start A path₀) where
     so_far : LedUp table ready.n ready.g A steps a
-    so_far = way.leads ready.n ready.g ready.known ready.starts-at ready.above ready.follows
+    so_far = way.leads ready.n ready.g ready.known ready.starts_at ready.above ready.follows
 
-    few-steps : steps < ready.n
-    few-steps =
-        let low : A < ready.n = omega (arith, open-nonterminal ready.known ready.above, ready.known.view.nonterminals) in
-        omega (arith, so_far.fallen, lower-within table ready.n A low)
+    few_steps : steps < ready.n
+    few_steps =
+        let low : A < ready.n = omega (arith, open_nonterminal ready.known ready.above, ready.known.view.nonterminals) in
+        omega (arith, so_far.fallen, lower_within table ready.n A low)
 
     -- at the start
     pub way-ends : a ≡ start → length path ≡ length path₀ → PathOf words places table start A path steps
     way-ends e l = record {
-      short = omega (arith, few-steps, ready.long);
+      short = omega (arith, few_steps, ready.long);
       each = way.each;
       other = way.other;
       ends = sym way.here ∙ e;
     }
 
-    pub way-short : steps < length path₀
-    way-short = omega (arith, few-steps, ready.long)
+    pub way_short : steps < length path₀
+    way_short = omega (arith, few_steps, ready.long)
 
     module _ (d : ¬ (a ≡ start)) where
-      above : Up ready.known so_far.above (ruleIn table a) (place_in table a) (upper words places table a)
-      above = up ready.known so_far.above so_far.follows (λ e. d (e ∙ sym ready.starts-at)) _ _ _ refl refl refl
+      above : Up ready.known so_far.above (rule_in table a) (place_in table a) (upper words places table a)
+      above = up ready.known so_far.above so_far.follows (λ e. d (e ∙ sym ready.starts_at)) _ _ _ refl refl refl
 
-      pub way-falls : contextBy table (upper words places table a) < contextBy table a
-      way-falls = above.falls
+      pub way_falls : context_by table (upper words places table a) < context_by table a
+      way_falls = above.falls
 
 -- over a path
 module _ {words places table : List ℕ} {n start A steps : ℕ} {path : List ℕ} (way : PathOf words places table start A path steps)
@@ -125,28 +125,28 @@ module _ {words places table : List ℕ} {n start A steps : ℕ} {path : List �
     front_at ready (suc i) h l e above =
         let back : suc i - 1 ≡ i = omega arith in
         let same = e ∙ ap (λ (j : ℕ). get_or path j 0) back ∙ way.each i l in
-        rw same (front-ready (before_at ready i (omega arith)) (way.other i l) above)
+        rw same (front_ready (before_at ready i (omega arith)) (way.other i l) above)
 
-    pub before-goes-on : {p q r : Lengths} {b : ℕ} {s t u x y z : List ℕ} (i : ℕ) → 0 < i → i ≤ steps → b ≡ get_or path (i - 1) 0 →
+    pub before_goes_on : {p q r : Lengths} {b : ℕ} {s t u x y z : List ℕ} (i : ℕ) → 0 < i → i ≤ steps → b ≡ get_or path (i - 1) 0 →
         SideListed before words places table n start (climbed words places table A i) s t x y p q →
         FrontListed words places table n b t u y z q r →
         SideListed before words places table n start (climbed words places table A (i - 1)) s u x z p r
     unfolding climbed
-    before-goes-on zero h l e above front = absurd (omega arith)
-    before-goes-on (suc i) h l e above front =
+    before_goes_on zero h l e above front = absurd (omega arith)
+    before_goes_on (suc i) h l e above front =
         let back : suc i - 1 ≡ i = omega arith in
         let same = e ∙ ap (λ (j : ℕ). get_or path j 0) back ∙ way.each i l in
-        rw back (before-written (way.other i l) above (rw same at front))
+        rw back (before_written (way.other i l) above (rw same at front))
 
-    pub before-begins : {p : Lengths} {s x : List ℕ} →
+    pub before_begins : {p : Lengths} {s x : List ℕ} →
         SideListed before words places table n start (climbed words places table A steps) s s x x p p
-    before-begins = start-written before way.ends
+    before_begins = start_written before way.ends
 
-    pub before-ends : {p q : Lengths} {i : ℕ} {s t x y : List ℕ} → i ≡ 0 →
+    pub before_ends : {p q : Lengths} {i : ℕ} {s t x y : List ℕ} → i ≡ 0 →
         SideListed before words places table n start (climbed words places table A i) s t x y p q →
         SideListed before words places table n start A s t x y p q
     unfolding climbed
-    before-ends e h = rw e at h
+    before_ends e h = rw e at h
 
 -- up: what is written so far, and then what lies after the next one, lie after the first
 pub record AfterSo (words places table : List ℕ) (n start A : ℕ) (a b x y : List ℕ) (p q : Lengths) (i : ℕ) : Type 0 where
@@ -156,29 +156,29 @@ pub record AfterSo (words places table : List ℕ) (n start A : ℕ) (a b x y : 
       SideListed after words places table n start (climbed words places table A i) b c y v q r →
       SideListed after words places table n start A a c x v p r
 
-pub after-begins : (words places table : List ℕ) (n start A : ℕ) (a x : List ℕ) (p : Lengths) →
+pub after_begins : (words places table : List ℕ) (n start A : ℕ) (a x : List ℕ) (p : Lengths) →
     AfterSo words places table n start A a a x x p p 0
 unfolding climbed
-after-begins words places table n start A a x p = record { ready = λ h. h; goes_on = λ c v r h. h }
+after_begins words places table n start A a x p = record { ready = λ h. h; goes_on = λ c v r h. h }
 
 module _ {words places table : List ℕ} {n start A steps : ℕ} {path : List ℕ} (way : PathOf words places table start A path steps)
     {a b x y : List ℕ} {p q : Lengths} {i : ℕ} (so : AfterSo words places table n start A a b x y p q i) where
   pub back_at : {b' : ℕ} → SideReady after words places table n start A p → i < steps → b' ≡ get_or path i 0 →
       BackReady words places table n b' q
-  back_at ready l e = rw (e ∙ way.each i l) (back-ready (so.ready ready) (way.other i l))
+  back_at ready l e = rw (e ∙ way.each i l) (back_ready (so.ready ready) (way.other i l))
 
-  pub after-goes-on : {b' : ℕ} {d w : List ℕ} {r : Lengths} → i < steps → b' ≡ get_or path i 0 →
-      SymbolsListed words places table n (backOf words places table b') b d y w q r →
+  pub after_goes_on : {b' : ℕ} {d w : List ℕ} {r : Lengths} → i < steps → b' ≡ get_or path i 0 →
+      SymbolsListed words places table n (back_of words places table b') b d y w q r →
       AfterSo words places table n start A a d x w p r (i + 1)
   unfolding climbed
-  after-goes-on {d = d} {w = w} {r = r} l e back =
-      let here : SymbolsListed words places table n (backOf words places table (climbed words places table A i)) b d y w q r =
+  after_goes_on {d = d} {w = w} {r = r} l e back =
+      let here : SymbolsListed words places table n (back_of words places table (climbed words places table A i)) b d y w q r =
       rw (e ∙ way.each i l) at back in
       rw (add-one i) (record {
         ready = λ h. after-ready (so.ready h) (way.other i l) here;
-        goes_on = λ c v s above. so.goes_on c v s (after-written (way.other i l) here above);
+        goes_on = λ c v s above. so.goes_on c v s (after_written (way.other i l) here above);
       })
 
-  pub after-ends : i ≡ steps → SideListed after words places table n start A a b x y p q
-  after-ends e =
-      so.goes_on b y q (start-written after (ap (climbed words places table A) e ∙ way.ends))
+  pub after_ends : i ≡ steps → SideListed after words places table n start A a b x y p q
+  after_ends e =
+      so.goes_on b y q (start_written after (ap (climbed words places table A) e ∙ way.ends))

@@ -10,126 +10,126 @@ use borrow.Author.Tests.{lt-ltb, le-ltb}
 use Rattle.grammar.specs.Words.{Grammar, R, RuleAt}
 use Rattle.grammar.specs.Tree.{Tree, Open, root, down, sentence, derivation}
 use Rattle.grammar.specs.Terms.{measure, limit}
-use Rattle.grammar.specs.Least.{Least, Sizes, no-symbols, terminal, nonterminal, Chosen, Context, ContextChoice, TreeOf}
-use Rattle.grammar.specs.Least.{Beside, at_place, past-terminal, past-nonterminal, ChosenOpen}
+use Rattle.grammar.specs.Least.{Least, Sizes, no_symbols, terminal, nonterminal, Chosen, Context, ContextChoice, TreeOf}
+use Rattle.grammar.specs.Least.{Beside, at_place, past_terminal, past_nonterminal, ChosenOpen}
 use Rattle.grammar.specs.Refusals.{Accepted}
-use Rattle.grammar.proofs.Dead.{gap-nonterminal}
+use Rattle.grammar.proofs.Dead.{gap_nonterminal}
 use Rattle.grammar.proofs.LayoutExact.{in_bounds}
-use Rattle.grammar.proofs.RuleNumbers.{rule-left, rule-right, rule-number}
-use Rattle.grammar.proofs.SizeIsLength.{size-is-length}
-use Rattle.grammar.proofs.Totals.{tree-of-total}
-use Rattle.grammar.proofs.Unique.{least-unique, context-unique, total-unique}
-use Rattle.entries.specs.Table.{leastIn, chosenIn, contextIn, ruleIn, place_in, totalIn}
-use Rattle.entries.proofs.Main.{least-front, chosen-front, context-front, rule-front, place-front, total-front, total-fits}
-use Rattle.layout.proofs.RulesInView.{viewed-right}
-use Rattle.handout.specs.Listing.{TableView, sizeBy, sizesBy, contextBy, rightOf}
-use Rattle.handout.specs.TreeListing.{before, after, sizeOn}
+use Rattle.grammar.proofs.RuleNumbers.{rule_left, rule_right, rule_number}
+use Rattle.grammar.proofs.SizeIsLength.{size_is_length}
+use Rattle.grammar.proofs.Totals.{tree_of_total}
+use Rattle.grammar.proofs.Unique.{least_unique, context_unique, total_unique}
+use Rattle.entries.specs.Table.{least_in, chosen_in, context_in, rule_in, place_in, total_in}
+use Rattle.entries.proofs.Main.{least_front, chosen_front, context_front, rule_front, place_front, total_front, total_fits}
+use Rattle.layout.proofs.RulesInView.{viewed_right}
+use Rattle.handout.specs.Listing.{TableView, size_by, sizes_by, context_by, right_of}
+use Rattle.handout.specs.TreeListing.{before, after, size_on}
 
 module _ (n : ℕ) (table : List ℕ) (s : ℕ) where
-  terminal-size : n ≤ s → sizeBy n table s ≡ 1
-  unfolding sizeBy
-  terminal-size h = rw (le-ltb s n h)
+  terminal_size : n ≤ s → size_by n table s ≡ 1
+  unfolding size_by
+  terminal_size h = rw (le-ltb s n h)
 
-  pub terminal-takes-one : n ≤ s → 1 ≤ sizeBy n table s
-  terminal-takes-one h = omega (arith, terminal-size h)
+  pub terminal_takes_one : n ≤ s → 1 ≤ size_by n table s
+  terminal_takes_one h = omega (arith, terminal_size h)
 
-  nonterminal-size : s < n → sizeBy n table s ≡ leastIn table s
-  unfolding sizeBy
-  nonterminal-size h = rw (lt-ltb s n h)
+  nonterminal_size : s < n → size_by n table s ≡ least_in table s
+  unfolding size_by
+  nonterminal_size h = rw (lt-ltb s n h)
 
 module _ {words places table : List ℕ} {n : ℕ} {g : Grammar} (known : TableView words places table n g) where
   -- what stands in the table
-  known-least : (A : ℕ) → A < g.N → Least measure g A (leastIn table A)
-  known-least A lt = rw (least-front g table A lt) at (known.tabled.leasts A lt)
+  known_least : (A : ℕ) → A < g.N → Least measure g A (least_in table A)
+  known_least A lt = rw (least_front g table A lt) at (known.tabled.leasts A lt)
 
-  known-context : (A : ℕ) → A < g.N → Context measure g A (contextIn table A)
-  known-context A lt = rw (context-front g table A lt) at (known.tabled.contexts A lt)
+  known_context : (A : ℕ) → A < g.N → Context measure g A (context_in table A)
+  known_context A lt = rw (context_front g table A lt) at (known.tabled.contexts A lt)
 
-  pub known-choice : (A : ℕ) → A < g.N → ¬ (A ≡ g.start) → ContextChoice measure g A (ruleIn table A) (place_in table A)
-  known-choice A lt d = rw (rule-front g table A lt, place-front g table A lt) at (known.tabled.choices A lt d)
+  pub known_choice : (A : ℕ) → A < g.N → ¬ (A ≡ g.start) → ContextChoice measure g A (rule_in table A) (place_in table A)
+  known_choice A lt d = rw (rule_front g table A lt, place_front g table A lt) at (known.tabled.choices A lt d)
 
   -- what a symbol takes
-  terminal-within : {s : ℕ} → g.N ≤ s → sizeBy n table s ≤ 1
-  terminal-within {s} p = let le : n ≤ s = omega (arith, known.view.nonterminals) in omega (arith, terminal-size n table s le)
+  terminal_within : {s : ℕ} → g.N ≤ s → size_by n table s ≤ 1
+  terminal_within {s} p = let le : n ≤ s = omega (arith, known.view.nonterminals) in omega (arith, terminal_size n table s le)
 
-  least-within : {s y : ℕ} → s < g.N → Least measure g s y → sizeBy n table s ≤ y
-  least-within {s} lt h =
+  least_within : {s y : ℕ} → s < g.N → Least measure g s y → size_by n table s ≤ y
+  least_within {s} lt h =
       let low : s < n = omega (arith, known.view.nonterminals) in
-      omega (arith, nonterminal-size n table s low, least-unique h (known-least s lt))
+      omega (arith, nonterminal_size n table s low, least_unique h (known_least s lt))
 
   -- what some symbols take, and those before and after a place
-  symbols-within : {w : List ℕ} {x : ℕ} → Sizes measure g w x → sizesBy n table w ≤ x
-  unfolding sizesBy
-  symbols-within no-symbols = omega arith
-  symbols-within (terminal p h) = omega (arith, terminal-within p, symbols-within h)
-  symbols-within (nonterminal lt y h) = omega (arith, least-within lt y, symbols-within h)
+  symbols_within : {w : List ℕ} {x : ℕ} → Sizes measure g w x → sizes_by n table w ≤ x
+  unfolding sizes_by
+  symbols_within no_symbols = omega arith
+  symbols_within (terminal p h) = omega (arith, terminal_within p, symbols_within h)
+  symbols_within (nonterminal lt y h) = omega (arith, least_within lt y, symbols_within h)
 
-  beside-within : {w : List ℕ} {i A x : ℕ} → Beside measure g w i A x →
-      sizesBy n table (take i w) + sizesBy n table (drop (suc i) w) ≤ x
-  unfolding sizesBy
-  beside-within (at_place p h) = omega (arith, symbols-within h)
-  beside-within (past-terminal p h) = omega (arith, terminal-within p, beside-within h)
-  beside-within (past-nonterminal lt y h) = omega (arith, least-within lt y, beside-within h)
+  beside_within : {w : List ℕ} {i A x : ℕ} → Beside measure g w i A x →
+      sizes_by n table (take i w) + sizes_by n table (drop (suc i) w) ≤ x
+  unfolding sizes_by
+  beside_within (at_place p h) = omega (arith, symbols_within h)
+  beside_within (past_terminal p h) = omega (arith, terminal_within p, beside_within h)
+  beside_within (past_nonterminal lt y h) = omega (arith, least_within lt y, beside_within h)
 
   -- LEAST: the chosen rule of s, with its right side as the lister reads it
   pub record ChosenRule (s k : ℕ) : Type 0 where
-    pub rule : RuleAt g k s (rightOf words places k)
+    pub rule : RuleAt g k s (right_of words places k)
     pub chosen : Chosen measure g s k
-    pub size : 1 + sizesBy n table (rightOf words places k) ≤ sizeBy n table s
+    pub size : 1 + sizes_by n table (right_of words places k) ≤ size_by n table s
 
-  pub chosen-rule : (s k : ℕ) → s < n → k ≡ chosenIn table s → ChosenRule s k
-  chosen-rule s k h e =
+  pub chosen_rule : (s k : ℕ) → s < n → k ≡ chosen_in table s → ChosenRule s k
+  chosen_rule s k h e =
       let lt : s < g.N = omega (arith, known.view.nonterminals) in
-      let c : Chosen measure g s k = rw (← e) at (rw (chosen-front g table s lt) at (known.tabled.chosen s lt)) in
+      let c : Chosen measure g s k = rw (← e) at (rw (chosen_front g table s lt) at (known.tabled.chosen s lt)) in
       let a = c.attains in
-      let right = viewed-right known.view a.rule in
-      let figure = least-unique c.least (known-least s lt) in
+      let right = viewed_right known.view a.rule in
+      let figure = least_unique c.least (known_least s lt) in
       record {
         rule = rw right a.rule;
         chosen = c;
-        size = omega (arith, nonterminal-size n table s h, figure, a.is, symbols-within a.sizes, ap (sizesBy n table) right);
+        size = omega (arith, nonterminal_size n table s h, figure, a.is, symbols_within a.sizes, ap (sizes_by n table) right);
       }
 
   -- CONTEXT: that of the left side of the context rule, and the rule's symbols beside the leaf
-  pub choice-within : {A B k i : ℕ} {w : List ℕ} → A < g.N → RuleAt g k B w → ContextChoice measure g A k i →
-      contextBy table B + (1 + (sizesBy n table (take i w) + sizesBy n table (drop (suc i) w))) ≤ contextBy table A
-  choice-within {A} {B} {k} {i} {w} lt r h =
+  pub choice_within : {A B k i : ℕ} {w : List ℕ} → A < g.N → RuleAt g k B w → ContextChoice measure g A k i →
+      context_by table B + (1 + (sizes_by n table (take i w) + sizes_by n table (drop (suc i) w))) ≤ context_by table A
+  choice_within {A} {B} {k} {i} {w} lt r h =
       let c = h.attains in
-      let left : B ≡ c.B = rule-left refl r c.rule in
-      let right : w ≡ c.w = rule-right refl r c.rule in
-      let outer : contextBy table B ≡ c.outer = context-unique (known-context B r.left) (rw (← left) at c.context) in
-      let figure : contextBy table A ≡ h.figure = context-unique (known-context A lt) h.context in
-      let others = rw (← right) at (beside-within c.beside) in
+      let left : B ≡ c.B = rule_left refl r c.rule in
+      let right : w ≡ c.w = rule_right refl r c.rule in
+      let outer : context_by table B ≡ c.outer = context_unique (known_context B r.left) (rw (← left) at c.context) in
+      let figure : context_by table A ≡ h.figure = context_unique (known_context A lt) h.context in
+      let others = rw (← right) at (beside_within c.beside) in
       omega (arith, outer, figure, c.is, others)
 
-  pub open-within : {A : ℕ} (x : Open g A) → ChosenOpen measure g x →
-      sizeOn n table before x + sizeOn n table after x ≤ contextBy table A
-  open-within root h = omega arith
-  open-within (down k r x a) h = omega (arith, choice-within (gap-nonterminal a) r h.0, open-within x h.1)
+  pub open_within : {A : ℕ} (x : Open g A) → ChosenOpen measure g x →
+      size_on n table before x + size_on n table after x ≤ context_by table A
+  open_within root h = omega arith
+  open_within (down k r x a) h = omega (arith, choice_within (gap_nonterminal a) r h.0, open_within x h.1)
 
   -- TOTAL: the context of the left side, and the rule
-  known-total : (r : ℕ) → totalIn n table r ≡ totalIn g.N table r
-  known-total r = ap (λ (m : ℕ). totalIn m table r) known.view.nonterminals
+  known_total : (r : ℕ) → total_in n table r ≡ total_in g.N table r
+  known_total r = ap (λ (m : ℕ). total_in m table r) known.view.nonterminals
 
-  pub total-within : {r A : ℕ} {w : List ℕ} → RuleAt g r A w → contextBy table A + (1 + sizesBy n table w) ≤ totalIn n table r
-  total-within {r} {A} {w} rule =
-      let l = rule-number rule in
+  pub total_within : {r A : ℕ} {w : List ℕ} → RuleAt g r A w → context_by table A + (1 + sizes_by n table w) ≤ total_in n table r
+  total_within {r} {A} {w} rule =
+      let l = rule_number rule in
       let t = known.tabled.totals r l in
-      let left : A ≡ t.A = rule-left refl rule t.rule.rule in
-      let right : w ≡ t.rule.w = rule-right refl rule t.rule.rule in
-      let outer : contextBy table A ≡ t.outer = context-unique (known-context A rule.left) (rw (← left) at t.context) in
-      let size = rw (← right) at (symbols-within t.rule.sizes) in
-      omega (arith, known-total r, total-front g table r l, t.is, outer, t.rule.is, size)
+      let left : A ≡ t.A = rule_left refl rule t.rule.rule in
+      let right : w ≡ t.rule.w = rule_right refl rule t.rule.rule in
+      let outer : context_by table A ≡ t.outer = context_unique (known_context A rule.left) (rw (← left) at t.context) in
+      let size = rw (← right) at (symbols_within t.rule.sizes) in
+      omega (arith, known_total r, total_front g table r l, t.is, outer, t.rule.is, size)
 
   -- and the tree of the rule has no more numbers, which are at most 4,096
-  pub tree-within : {r : ℕ} {t : Tree g g.start} → TreeOf measure g r t →
-      length (sentence t) + length (derivation t) ≤ totalIn n table r
-  tree-within {r} {t} tree =
-      let l = rule-number tree.rule in
-      let is = total-unique (tree-of-total measure tree) (known.tabled.totals r l) in
-      omega (arith, known-total r, total-front g table r l, is, size-is-length t)
+  pub tree_within : {r : ℕ} {t : Tree g g.start} → TreeOf measure g r t →
+      length (sentence t) + length (derivation t) ≤ total_in n table r
+  tree_within {r} {t} tree =
+      let l = rule_number tree.rule in
+      let is = total_unique (tree_of_total measure tree) (known.tabled.totals r l) in
+      omega (arith, known_total r, total_front g table r l, is, size_is_length t)
 
-  pub total-few : {r : ℕ} → Accepted limit g → r < R g → totalIn n table r ≤ limit
-  total-few {r} a l =
-      let few = total-fits (in_bounds words known.view.is) a.fit known.tabled r l in
-      omega (arith, known-total r, total-front g table r l, few)
+  pub total_few : {r : ℕ} → Accepted limit g → r < R g → total_in n table r ≤ limit
+  total_few {r} a l =
+      let few = total_fits (in_bounds words known.view.is) a.fit known.tabled r l in
+      omega (arith, known_total r, total_front g table r l, few)

@@ -9,27 +9,27 @@ use mathlib.Core.List.{List}
 use lib.ListN.{get_or}
 use Rattle.grammar.specs.Words.{Grammar, R}
 use Rattle.grammar.specs.Refusals.{Lowest}
-use Rattle.grammar.proofs.Search.{all-or-lowest}
-use Rattle.marks.specs.Marks.{FirstUnused, at, none-unused}
+use Rattle.grammar.proofs.Search.{all_or_lowest}
+use Rattle.marks.specs.Marks.{FirstUnused, at, none_unused}
 use Rattle.marks.specs.declared.LowestUnused.{LowestUnused}
 use Rattle.marks.specs.declared.LowestUnused.TheVariants.{At, None}
 use Rattle.handout.specs.Next.{Unused, AllUsed}
 
 module _ (g : Grammar) (marks : List ℕ) where
   pub unused? : AllUsed g marks ⊎ ((r : ℕ) × Lowest (Unused g marks) r)
-  unused? = all-or-lowest (Unused g marks) (λ r. ¬ (get_or marks r 0 ≡ 0)) (R g) each (λ r n u. n u.zero)
+  unused? = all_or_lowest (Unused g marks) (λ r. ¬ (get_or marks r 0 ≡ 0)) (R g) each (λ r n u. n u.zero)
     where
-      of-mark : (r : ℕ) → r < R g → Dec (get_or marks r 0 ≡ 0) → (¬ (get_or marks r 0 ≡ 0)) ⊎ Unused g marks r
-      of-mark r l (yes z) = inr (record { rule = l; zero = z })
-      of-mark r l (no n) = inl n
+      of_mark : (r : ℕ) → r < R g → Dec (get_or marks r 0 ≡ 0) → (¬ (get_or marks r 0 ≡ 0)) ⊎ Unused g marks r
+      of_mark r l (yes z) = inr (record { rule = l; zero = z })
+      of_mark r l (no n) = inl n
 
       each : (r : ℕ) → r < R g → (¬ (get_or marks r 0 ≡ 0)) ⊎ Unused g marks r
-      each r l = of-mark r l (ℕ_discrete (get_or marks r 0) 0)
+      each r l = of_mark r l (ℕ_discrete (get_or marks r 0) 0)
 
 -- the search
 module _ (g : Grammar) {marks : List ℕ} {rules : ℕ} where
-  pub lowest-found : {a : LowestUnused} → FirstUnused marks rules a → rules ≡ R g → (r : ℕ) → a ≡ At r → Lowest (Unused g marks) r
-  lowest-found (at {r = k} l z below) e r is =
+  pub lowest_found : {a : LowestUnused} → FirstUnused marks rules a → rules ≡ R g → (r : ℕ) → a ≡ At r → Lowest (Unused g marks) r
+  lowest_found (at {r = k} l z below) e r is =
       let same : k ≡ r = cc in
       record {
         such = record { rule = omega arith; zero = rw same at z };
@@ -39,8 +39,8 @@ module _ (g : Grammar) {marks : List ℕ} {rules : ℕ} where
       go : k ≡ r → (m : ℕ) → Unused g marks m → Dec (m < r) → r ≤ m
       go same m u (yes lt) = absurd (below m (omega arith) u.zero)
       go same m u (no ge) = omega arith
-  lowest-found (none-unused below) e r is = absurd (let z : ◌≡◌ {A = ℕ} 0 1 = cc in omega arith)
+  lowest_found (none_unused below) e r is = absurd (let z : ◌≡◌ {A = ℕ} 0 1 = cc in omega arith)
 
   pub none_found : {a : LowestUnused} → FirstUnused marks rules a → rules ≡ R g → a ≡ None → AllUsed g marks
   none_found (at l z below) e is = absurd (let z : ◌≡◌ {A = ℕ} 0 1 = cc in omega arith)
-  none_found (none-unused below) e is = λ r l. below r (omega arith)
+  none_found (none_unused below) e is = λ r l. below r (omega arith)

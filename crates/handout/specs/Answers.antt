@@ -14,20 +14,20 @@ pub data Case : Type 0 where
   -- rows 4 to 7
   of_words : GrammarRefusal → Case
   -- "next: the first 5N + R table words are missing or are not this grammar's table"
-  not-its-table : Case
+  not_its_table : Case
   -- "fewer marks than rules"
-  few-marks : (rules : ℕ) → Case
+  few_marks : (rules : ℕ) → Case
   -- "sentence buffer too short"
   too_short : (needed : ℕ) → Case
   -- "derivation buffer too short"
-  derivation-short : (needed : ℕ) → Case
+  derivation_short : (needed : ℕ) → Case
 
 -- "Every row returns its number and the place shown"
 abbrev pub answer : Case → NextAnswer
 answer (next target tokens rules) = Next target tokens rules
 answer finished = Finished
 answer (of_words x) = Refused (number x) (place x)
-answer not-its-table = Refused 8 0
-answer (few-marks rules) = Refused 9 rules
+answer not_its_table = Refused 8 0
+answer (few_marks rules) = Refused 9 rules
 answer (too_short needed) = Refused 3 needed
-answer (derivation-short needed) = Refused 10 needed
+answer (derivation_short needed) = Refused 10 needed

@@ -2,7 +2,7 @@
 -- when", and its sentences on Finished and on what is written. The laws of proofs/NextExact say that the promise comes to this.
 -- Assumes nothing.
 use Rattle.std.specs.Prelude.{ℕ, ◌≤◌, ◌<◌, ◌≡◌, ◌⊎◌, List, length}
-use Rattle.answers.specs.GrammarRefusals.{no-tree, unreached}
+use Rattle.answers.specs.GrammarRefusals.{no_tree, unreached}
 use Rattle.answers.specs.Buffers.{Written}
 use Rattle.grammar.specs.Words.{Grammar, R, Are}
 use Rattle.grammar.specs.Tree.{Tree, sentence, derivation}
@@ -10,8 +10,8 @@ use Rattle.grammar.specs.Refusals.{Accepted}
 use Rattle.grammar.specs.Rows.{GrammarRefused}
 use Rattle.grammar.specs.Terms.{limit}
 use Rattle.entries.specs.Table.{HasTable, Own}
-use Rattle.handout.specs.Answers.{Case, answer, next, finished, of_words, not-its-table, few-marks, too_short}
-use Rattle.handout.specs.Answers.{derivation-short}
+use Rattle.handout.specs.Answers.{Case, answer, next, finished, of_words, not_its_table, few_marks, too_short}
+use Rattle.handout.specs.Answers.{derivation_short}
 use Rattle.handout.specs.Next.{AllUsed, Marked, Wanted, Lent}
 use Rattle.handout.specs.declared.NextAnswer.{NextAnswer}
 
@@ -36,11 +36,11 @@ module _ (words table : List ℕ) (before : Lent) where
   -- "Given exactly when", of every answer
   abbrev pub Given : Case → Type 0
   Given (of_words x) = GrammarRefused limit words x
-  Given not-its-table = Are words (λ g. Accepted limit g × ¬ HasTable g table)
-  Given (few-marks n) = Are words (λ g. Own table g × (n ≡ R g) × (length before.marks < n))
+  Given not_its_table = Are words (λ g. Accepted limit g × ¬ HasTable g table)
+  Given (few_marks n) = Are words (λ g. Own table g × (n ≡ R g) × (length before.marks < n))
   Given finished = GivenFinished
   Given (too_short n) = Target (λ k s d. (n ≡ length s) × (length before.tokens < n))
-  Given (derivation-short n) =
+  Given (derivation_short n) =
       Target (λ k s d. (length s ≤ length before.tokens) × (n ≡ length d) × (length before.rules < n))
   Given (next r n m) = GivenNext r n m
 
@@ -54,4 +54,4 @@ module _ (words table : List ℕ) (before : Lent) where
 
 -- the answer is 5, or 6: "A grammar met by 5 or 6 is what demand 3 calls dead; tables and next both say so."
 abbrev pub SaysDead : NextAnswer → Type 0
-SaysDead a = (A : ℕ) × ((a ≡ answer (of_words (no-tree A))) ⊎ (a ≡ answer (of_words (unreached A))))
+SaysDead a = (A : ℕ) × ((a ≡ answer (of_words (no_tree A))) ⊎ (a ≡ answer (of_words (unreached A))))

@@ -5,12 +5,12 @@
 use Rattle.std.specs.Prelude.{ℕ, ◌+◌, ◌/◌, ◌%◌, ◌≤◌, ◌<◌, ◌≡◌, List, [], ◌∷◌, ltb, length, get_or}
 use Rattle.std.proofs.lemmas.List.Edits.{sets}
 use Rattle.grammar.specs.Words.{Grammar, R}
-use Rattle.layout.specs.Rules.{rightAt}
+use Rattle.layout.specs.Rules.{right_at}
 use Rattle.grammar.specs.Tree.{Tree, Forest, sentence, sentences, derivation, derivations}
 use Rattle.grammar.specs.Terms.{measure, limit}
 use Rattle.grammar.specs.Least.{ChosenTree, ChosenForest}
 use Rattle.grammar.specs.Certificates.{either}
-use Rattle.entries.specs.Table.{leastIn, contextIn, HasTable}
+use Rattle.entries.specs.Table.{least_in, context_in, HasTable}
 use Rattle.layout.specs.View.{View}
 use Rattle.handout.specs.declared.lister.Lengths.{Lengths}
 
@@ -20,20 +20,20 @@ pub record TableView (words places table : List ℕ) (n : ℕ) (g : Grammar) : T
   pub tabled : HasTable g table
 
 -- a symbol's size by the table, and the sizes of some symbols: their listings have no more numbers, and it falls from call to call
-unfoldable pub sizeBy : ℕ → List ℕ → ℕ → ℕ
-sizeBy n table s = either (ltb s n) (leastIn table s) 1
+unfoldable pub size_by : ℕ → List ℕ → ℕ → ℕ
+size_by n table s = either (ltb s n) (least_in table s) 1
 
-unfoldable pub sizesBy : ℕ → List ℕ → List ℕ → ℕ
-sizesBy n table [] = 0
-sizesBy n table (s ∷ w) = sizeBy n table s + sizesBy n table w
+unfoldable pub sizes_by : ℕ → List ℕ → List ℕ → ℕ
+sizes_by n table [] = 0
+sizes_by n table (s ∷ w) = size_by n table s + sizes_by n table w
 
 -- a context's size by the table, which falls from a nonterminal to the left side of its context rule
-abbrev pub contextBy : List ℕ → ℕ → ℕ
-contextBy table A = contextIn table A
+abbrev pub context_by : List ℕ → ℕ → ℕ
+context_by table A = context_in table A
 
 -- the right side of rule k
-abbrev pub rightOf : List ℕ → List ℕ → ℕ → List ℕ
-rightOf words places k = rightAt words (get_or places k 0)
+abbrev pub right_of : List ℕ → List ℕ → ℕ → List ℕ
+right_of words places k = right_at words (get_or places k 0)
 
 -- so many tokens and rule numbers in one number: 65,536 for each token, 1 for each rule number
 abbrev pub lengths : ℕ → Lengths
@@ -43,23 +43,23 @@ lengths m = record { tokens = m / 65536; rules = m % 65536 }
 pub record SymbolReady (words places table : List ℕ) (n s : ℕ) (past : Lengths) : Type 0 where
   pub g : Grammar
   pub known : TableView words places table n g
-  pub few : past.tokens + past.rules + sizeBy n table s ≤ limit
+  pub few : past.tokens + past.rules + size_by n table s ≤ limit
 
 pub record RuleReady (words places table : List ℕ) (n k : ℕ) (past : Lengths) : Type 0 where
   pub g : Grammar
   pub known : TableView words places table n g
   pub number : k < R g
-  pub few : past.tokens + past.rules + (1 + sizesBy n table (rightOf words places k)) ≤ limit
+  pub few : past.tokens + past.rules + (1 + sizes_by n table (right_of words places k)) ≤ limit
 
 pub record SymbolsReady (words places table : List ℕ) (n : ℕ) (w : List ℕ) (past : Lengths) : Type 0 where
   pub g : Grammar
   pub known : TableView words places table n g
-  pub few : past.tokens + past.rules + sizesBy n table w ≤ limit
+  pub few : past.tokens + past.rules + sizes_by n table w ≤ limit
 
 -- the tokens us and the rule numbers vs are the listing of the symbol s, opened by chosen rules
 pub data SymbolListing (g : Grammar) : ℕ → List ℕ → List ℕ → Type 0 where
-  of-terminal : {s : ℕ} → g.N ≤ s → SymbolListing g s (s ∷ []) []
-  of-nonterminal : {s : ℕ} (t : Tree g s) → ChosenTree measure g t → SymbolListing g s (sentence t) (derivation t)
+  of_terminal : {s : ℕ} → g.N ≤ s → SymbolListing g s (s ∷ []) []
+  of_nonterminal : {s : ℕ} (t : Tree g s) → ChosenTree measure g t → SymbolListing g s (sentence t) (derivation t)
 
 -- they are that of the symbols of w in order
 pub record SymbolsListing (g : Grammar) (w us vs : List ℕ) : Type 0 where
@@ -76,8 +76,8 @@ pub record RuleListing (g : Grammar) (k : ℕ) (w us vs : List ℕ) : Type 0 whe
 
 -- us and vs are written from the lengths past on, as far as the two parts reach, and so are the lengths after them
 pub record Wrote (us vs tokens tokens' rules rules' : List ℕ) (past so : Lengths) : Type 0 where
-  pub more-tokens : so.tokens ≡ past.tokens + length us
-  pub more-rules : so.rules ≡ past.rules + length vs
+  pub more_tokens : so.tokens ≡ past.tokens + length us
+  pub more_rules : so.rules ≡ past.rules + length vs
   pub sentence : tokens' ≡ sets tokens past.tokens us
   pub derivation : rules' ≡ sets rules past.rules vs
 
@@ -96,13 +96,13 @@ pub record PartListed (words places table : List ℕ) (n : ℕ) (P : Grammar →
 
 abbrev pub SymbolListed : List ℕ → List ℕ → List ℕ → ℕ → ℕ → List ℕ → List ℕ → List ℕ → List ℕ → Lengths → Lengths → Type 0
 SymbolListed words places table n s tokens tokens' rules rules' past so =
-    PartListed words places table n (λ g. SymbolListing g s) (sizeBy n table s) tokens tokens' rules rules' past so
+    PartListed words places table n (λ g. SymbolListing g s) (size_by n table s) tokens tokens' rules rules' past so
 
 abbrev pub RuleListed : List ℕ → List ℕ → List ℕ → ℕ → ℕ → List ℕ → List ℕ → List ℕ → List ℕ → Lengths → Lengths → Type 0
 RuleListed words places table n k tokens tokens' rules rules' past so =
-    PartListed words places table n (λ g. RuleListing g k (rightOf words places k)) (1 + sizesBy n table (rightOf words places k))
+    PartListed words places table n (λ g. RuleListing g k (right_of words places k)) (1 + sizes_by n table (right_of words places k))
     tokens tokens' rules rules' past so
 
 abbrev pub SymbolsListed : List ℕ → List ℕ → List ℕ → ℕ → List ℕ → List ℕ → List ℕ → List ℕ → List ℕ → Lengths → Lengths → Type 0
 SymbolsListed words places table n w tokens tokens' rules rules' past so =
-    PartListed words places table n (λ g. SymbolsListing g w) (sizesBy n table w) tokens tokens' rules rules' past so
+    PartListed words places table n (λ g. SymbolsListing g w) (sizes_by n table w) tokens tokens' rules rules' past so

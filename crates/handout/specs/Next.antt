@@ -14,7 +14,7 @@ use Rattle.grammar.specs.Least.{TreeOf}
 use Rattle.grammar.specs.Refusals.{Lowest, Accepted}
 use Rattle.grammar.specs.Rows.{GrammarRefused}
 use Rattle.entries.specs.Table.{HasTable}
-use Rattle.handout.specs.Answers.{answer, next, finished, of_words, not-its-table, few-marks, too_short, derivation-short}
+use Rattle.handout.specs.Answers.{answer, next, finished, of_words, not_its_table, few_marks, too_short, derivation_short}
 use Rattle.handout.specs.declared.NextAnswer.{NextAnswer}
 -- "sets to 1 the zero marks of exactly the rules in the derivation"
 pub use Rattle.marks.specs.Marks.{Marked}
@@ -48,26 +48,26 @@ pub record Wanted (words table marks : List ℕ) (g : Grammar) (r : ℕ) (t : Tr
 
 pub data NextPromise (words table : List ℕ) (before : Lent) : NextAnswer → Lent → Type 0 where
   -- 4, 5, 6 and 7
-  row-4-7 : {x : GrammarRefusal} → GrammarRefused limit words x →
+  row_4_7 : {x : GrammarRefusal} → GrammarRefused limit words x →
       NextPromise words table before (answer (of_words x)) before
   -- "the first 5N + R table words are missing or are not this grammar's table"
-  row-8 : {g : Grammar} → layout words ≡ reads g → Accepted limit g → ¬ HasTable g table →
-      NextPromise words table before (answer not-its-table) before
+  row_8 : {g : Grammar} → layout words ≡ reads g → Accepted limit g → ¬ HasTable g table →
+      NextPromise words table before (answer not_its_table) before
   -- "fewer marks than rules"
-  row-9 : {g : Grammar} → layout words ≡ reads g → Accepted limit g → HasTable g table → length before.marks < R g →
-      NextPromise words table before (answer (few-marks (R g))) before
+  row_9 : {g : Grammar} → layout words ≡ reads g → Accepted limit g → HasTable g table → length before.marks < R g →
+      NextPromise words table before (answer (few_marks (R g))) before
   -- "With no rule unused it answers Finished and writes nothing."
-  row-finished : {g : Grammar} → layout words ≡ reads g → Accepted limit g → HasTable g table → R g ≤ length before.marks →
+  row_finished : {g : Grammar} → layout words ≡ reads g → Accepted limit g → HasTable g table → R g ≤ length before.marks →
       AllUsed g before.marks →
       NextPromise words table before (answer finished) before
   -- "sentence buffer too short"
-  row-3 : {g : Grammar} {r : ℕ} {t : Tree g g.start} → Wanted words table before.marks g r t →
+  row_3 : {g : Grammar} {r : ℕ} {t : Tree g g.start} → Wanted words table before.marks g r t →
       length before.tokens < length (sentence t) →
       NextPromise words table before (answer (too_short (length (sentence t)))) before
   -- "derivation buffer too short"
-  row-10 : {g : Grammar} {r : ℕ} {t : Tree g g.start} → Wanted words table before.marks g r t →
+  row_10 : {g : Grammar} {r : ℕ} {t : Tree g g.start} → Wanted words table before.marks g r t →
       length (sentence t) ≤ length before.tokens → length before.rules < length (derivation t) →
-      NextPromise words table before (answer (derivation-short (length (derivation t)))) before
+      NextPromise words table before (answer (derivation_short (length (derivation t)))) before
   -- "It returns the target and both lengths."
   row_next : {g : Grammar} {r : ℕ} {t : Tree g g.start} {marks : List ℕ} → Wanted words table before.marks g r t →
       length (sentence t) ≤ length before.tokens → length (derivation t) ≤ length before.rules →

@@ -5,7 +5,7 @@ use Rattle.std.specs.Prelude.{ℕ, ◌+◌, ◌≤◌, ◌<◌, ◌≡◌, List,
 use Rattle.grammar.specs.Words.{Grammar, R, layout, reads}
 use Rattle.grammar.specs.Derivation.{Derives}
 use Rattle.grammar.specs.Tree.{Tree, Uses, ◌∈◌}
-use Rattle.grammar.specs.Measure.{treeCost}
+use Rattle.grammar.specs.Measure.{tree_cost}
 use Rattle.grammar.specs.Terms.{measure, limit}
 use Rattle.handout.specs.Next.{Lent, AllUnused, NextPromise}
 use Rattle.handout.specs.declared.NextAnswer.{NextAnswer}
@@ -63,7 +63,7 @@ pub record Proper (g : Grammar) (hs : List Handout) (r : ℕ) (t ks : List ℕ) 
   pub new : ¬ UsedIn hs r
   pub lowest : (k : ℕ) → k < r → UsedIn hs k
   -- no tree of the start that uses it is smaller
-  pub least : (u : Tree g g.start) → Uses r u → length t + length ks ≤ treeCost measure u
+  pub least : (u : Tree g g.start) → Uses r u → length t + length ks ≤ tree_cost measure u
   -- "In the suite no sentence and its derivation together exceed 4,096 numbers."
   pub limit : length t + length ks ≤ limit
 

@@ -6,8 +6,8 @@ use Rattle.grammar.specs.Words.{Grammar, R, Are}
 use Rattle.grammar.specs.Refusals.{Accepted, Lowest}
 use Rattle.grammar.specs.Rows.{GrammarRefused}
 use Rattle.grammar.specs.Terms.{limit}
-use Rattle.entries.specs.Table.{totalIn}
-use Rattle.handout.specs.Answers.{answer, of_words, not-its-table}
+use Rattle.entries.specs.Table.{total_in}
+use Rattle.handout.specs.Answers.{answer, of_words, not_its_table}
 use Rattle.handout.specs.Next.{Unused, Lent, NextPromise}
 use Rattle.handout.specs.Listing.{TableView}
 use Rattle.handout.specs.TreeListing.{TreeFits}
@@ -18,8 +18,8 @@ use Rattle.handout.specs.declared.tree_lister.Request.{Request}
 
 -- the table is none of a grammar's own: the words are refused, by 4, 5, 6 or 7, or else the table is, by 8
 pub data UpToEight (words : List ℕ) : NextAnswer → Type 0 where
-  words-refused : {x : GrammarRefusal} → GrammarRefused limit words x → UpToEight words (answer (of_words x))
-  table-refused : Are words (Accepted limit) → UpToEight words (answer not-its-table)
+  words_refused : {x : GrammarRefusal} → GrammarRefused limit words x → UpToEight words (answer (of_words x))
+  table_refused : Are words (Accepted limit) → UpToEight words (answer not_its_table)
 
 -- rows 4 to 8 are passed: the words are an accepted grammar's, its rules stand at these indexes, these are its N, its start and
 -- its R, and the table is its own
@@ -27,18 +27,18 @@ pub record PastEight (words places table : List ℕ) (n start rules : ℕ) : Typ
   pub g : Grammar
   pub accepted : Accepted limit g
   pub known : TableView words places table n g
-  pub starts-at : start ≡ g.start
-  pub all-rules : rules ≡ R g
+  pub starts_at : start ≡ g.start
+  pub all_rules : rules ≡ R g
 
 -- and so is 9, and the request is for the lowest unused rule, with its total
 pub record Requested (words places table marks : List ℕ) (q : Request) : Type 0 where
   pub g : Grammar
   pub accepted : Accepted limit g
   pub known : TableView words places table q.n g
-  pub starts-at : q.start ≡ g.start
+  pub starts_at : q.start ≡ g.start
   pub marked : R g ≤ length marks
   pub target : Lowest (Unused g marks) q.target
-  pub total : q.total ≡ totalIn q.n table q.target
+  pub total : q.total ≡ total_in q.n table q.target
 
 -- what is found before a word is written: an answer with which the buffers are kept, or a request, with room for what is asked for
 pub data Decided (words places table : List ℕ) (before : Lent) : Decision → Type 0 where

@@ -4,52 +4,52 @@
 -- Nobody has to believe this file; the promises do not cite it. Assumes nothing.
 use Rattle.std.specs.Prelude.{ℕ, zero, suc, ◌+◌, ◌≤◌, ◌<◌, ◌≡◌, List, [], ◌∷◌, ◌++◌, length, get_or, take, drop}
 use Rattle.grammar.specs.Words.{Grammar, R}
-use Rattle.grammar.specs.Tree.{Tree, Gap, here, past-leaf, past-child, Open, root, down}
+use Rattle.grammar.specs.Tree.{Tree, Gap, here, past_leaf, past_child, Open, root, down}
 use Rattle.grammar.specs.Tree.{sentence, sentences, derivation, derivations}
 use Rattle.grammar.specs.Terms.{measure, limit}
 use Rattle.grammar.specs.Least.{ChosenOpen, TreeOf}
 use Rattle.grammar.specs.Refusals.{Accepted}
-use Rattle.entries.specs.Table.{ruleIn, place_in}
+use Rattle.entries.specs.Table.{rule_in, place_in}
 use Rattle.handout.specs.declared.lister.Lengths.{Lengths}
-use Rattle.handout.specs.Listing.{TableView, sizesBy, rightOf, RuleListing, Wrote, PartListed}
+use Rattle.handout.specs.Listing.{TableView, sizes_by, right_of, RuleListing, Wrote, PartListed}
 
 -- A is no start, and has a place in its context rule
 pub record Beside (words places table : List ℕ) (n A : ℕ) (g : Grammar) : Type 0 where
   pub known : TableView words places table n g
   pub leaf : A < n
-  pub number : ruleIn table A < R g
-  pub place : place_in table A < length (rightOf words places (ruleIn table A))
+  pub number : rule_in table A < R g
+  pub place : place_in table A < length (right_of words places (rule_in table A))
 
 -- the symbols before A's place in its context rule, and those after it
-abbrev pub frontOf : List ℕ → List ℕ → List ℕ → ℕ → List ℕ
-frontOf words places table A = take (place_in table A) (rightOf words places (ruleIn table A))
+abbrev pub front_of : List ℕ → List ℕ → List ℕ → ℕ → List ℕ
+front_of words places table A = take (place_in table A) (right_of words places (rule_in table A))
 
-abbrev pub backOf : List ℕ → List ℕ → List ℕ → ℕ → List ℕ
-backOf words places table A = drop (suc (place_in table A)) (rightOf words places (ruleIn table A))
+abbrev pub back_of : List ℕ → List ℕ → List ℕ → ℕ → List ℕ
+back_of words places table A = drop (suc (place_in table A)) (right_of words places (rule_in table A))
 
 -- the number of A's context rule and the symbols before the place can be listed; and those after it
 pub record FrontReady (words places table : List ℕ) (n A : ℕ) (past : Lengths) : Type 0 where
   pub g : Grammar
   pub beside : Beside words places table n A g
-  pub few : past.tokens + past.rules + (1 + sizesBy n table (frontOf words places table A)) ≤ limit
+  pub few : past.tokens + past.rules + (1 + sizes_by n table (front_of words places table A)) ≤ limit
 
 pub record BackReady (words places table : List ℕ) (n A : ℕ) (past : Lengths) : Type 0 where
   pub g : Grammar
   pub beside : Beside words places table n A g
-  pub few : past.tokens + past.rules + sizesBy n table (backOf words places table A) ≤ limit
+  pub few : past.tokens + past.rules + sizes_by n table (back_of words places table A) ≤ limit
 
 -- the number and the symbols before the place are listed
 abbrev pub FrontListed : List ℕ → List ℕ → List ℕ → ℕ → ℕ → List ℕ → List ℕ → List ℕ → List ℕ → Lengths → Lengths → Type 0
 FrontListed words places table n A tokens tokens' rules rules' past so =
-    PartListed words places table n (λ g. RuleListing g (ruleIn table A) (frontOf words places table A))
-    (1 + sizesBy n table (frontOf words places table A)) tokens tokens' rules rules' past so
+    PartListed words places table n (λ g. RuleListing g (rule_in table A) (front_of words places table A))
+    (1 + sizes_by n table (front_of words places table A)) tokens tokens' rules rules' past so
 
 -- the left side of rule k; that of A's context rule, and the nonterminal so many steps up
 abbrev pub left_of : List ℕ → List ℕ → ℕ → ℕ
 left_of words places k = get_or words (get_or places k 0) 0
 
 abbrev pub upper : List ℕ → List ℕ → List ℕ → ℕ → ℕ
-upper words places table A = left_of words places (ruleIn table A)
+upper words places table A = left_of words places (rule_in table A)
 
 unfoldable pub climbed : List ℕ → List ℕ → List ℕ → ℕ → ℕ → ℕ
 climbed words places table A zero = A
@@ -69,56 +69,56 @@ pub data Side : Type 0 where
 
 -- what is listed on a side of the open leaf of a right side, and of a tree
 module _ {g : Grammar} where
-  abbrev pub gapTokens : {w : List ℕ} {i A : ℕ} → Side → Gap g w i A → List ℕ
-  gapTokens before (here p f) = []
-  gapTokens before (past-leaf {s} p a) = s ∷ gapTokens before a
-  gapTokens before (past-child t a) = sentence t ++ gapTokens before a
-  gapTokens after (here p f) = sentences f
-  gapTokens after (past-leaf p a) = gapTokens after a
-  gapTokens after (past-child t a) = gapTokens after a
+  abbrev pub gap_tokens : {w : List ℕ} {i A : ℕ} → Side → Gap g w i A → List ℕ
+  gap_tokens before (here p f) = []
+  gap_tokens before (past_leaf {s} p a) = s ∷ gap_tokens before a
+  gap_tokens before (past_child t a) = sentence t ++ gap_tokens before a
+  gap_tokens after (here p f) = sentences f
+  gap_tokens after (past_leaf p a) = gap_tokens after a
+  gap_tokens after (past_child t a) = gap_tokens after a
 
-  abbrev pub gapRules : {w : List ℕ} {i A : ℕ} → Side → Gap g w i A → List ℕ
-  gapRules before (here p f) = []
-  gapRules before (past-leaf p a) = gapRules before a
-  gapRules before (past-child t a) = derivation t ++ gapRules before a
-  gapRules after (here p f) = derivations f
-  gapRules after (past-leaf p a) = gapRules after a
-  gapRules after (past-child t a) = gapRules after a
+  abbrev pub gap_rules : {w : List ℕ} {i A : ℕ} → Side → Gap g w i A → List ℕ
+  gap_rules before (here p f) = []
+  gap_rules before (past_leaf p a) = gap_rules before a
+  gap_rules before (past_child t a) = derivation t ++ gap_rules before a
+  gap_rules after (here p f) = derivations f
+  gap_rules after (past_leaf p a) = gap_rules after a
+  gap_rules after (past_child t a) = gap_rules after a
 
-  abbrev pub tokensOn : {A : ℕ} → Side → Open g A → List ℕ
-  tokensOn before root = []
-  tokensOn before (down k r x a) = tokensOn before x ++ gapTokens before a
-  tokensOn after root = []
-  tokensOn after (down k r x a) = gapTokens after a ++ tokensOn after x
+  abbrev pub tokens_on : {A : ℕ} → Side → Open g A → List ℕ
+  tokens_on before root = []
+  tokens_on before (down k r x a) = tokens_on before x ++ gap_tokens before a
+  tokens_on after root = []
+  tokens_on after (down k r x a) = gap_tokens after a ++ tokens_on after x
 
-  abbrev pub rulesOn : {A : ℕ} → Side → Open g A → List ℕ
-  rulesOn before root = []
-  rulesOn before (down k r x a) = rulesOn before x ++ (k ∷ gapRules before a)
-  rulesOn after root = []
-  rulesOn after (down k r x a) = gapRules after a ++ rulesOn after x
+  abbrev pub rules_on : {A : ℕ} → Side → Open g A → List ℕ
+  rules_on before root = []
+  rules_on before (down k r x a) = rules_on before x ++ (k ∷ gap_rules before a)
+  rules_on after root = []
+  rules_on after (down k r x a) = gap_rules after a ++ rules_on after x
 
   -- its size by the table, which is no less than how many numbers are listed there
-  abbrev pub sizeOn : {A : ℕ} → ℕ → List ℕ → Side → Open g A → ℕ
-  sizeOn n table before root = 0
-  sizeOn n table before (down {i = i} {w = w} k r x a) = sizeOn n table before x + (1 + sizesBy n table (take i w))
-  sizeOn n table after root = 0
-  sizeOn n table after (down {i = i} {w = w} k r x a) = sizesBy n table (drop (suc i) w) + sizeOn n table after x
+  abbrev pub size_on : {A : ℕ} → ℕ → List ℕ → Side → Open g A → ℕ
+  size_on n table before root = 0
+  size_on n table before (down {i = i} {w = w} k r x a) = size_on n table before x + (1 + sizes_by n table (take i w))
+  size_on n table after root = 0
+  size_on n table after (down {i = i} {w = w} k r x a) = sizes_by n table (drop (suc i) w) + size_on n table after x
 
 -- the context choices lead from the start to A, and what lies on that side is little enough to count
 pub record SideReady (side : Side) (words places table : List ℕ) (n start A : ℕ) (past : Lengths) : Type 0 where
   pub g : Grammar
   pub known : TableView words places table n g
-  pub starts-at : start ≡ g.start
+  pub starts_at : start ≡ g.start
   pub above : Open g A
   pub follows : ChosenOpen measure g above
-  pub few : past.tokens + past.rules + sizeOn n table side above ≤ limit
+  pub few : past.tokens + past.rules + size_on n table side above ≤ limit
 
 -- they lead so far, and the path has room for as many as there are nonterminals
 pub record ClimbReady (words places table : List ℕ) (start A : ℕ) (path : List ℕ) : Type 0 where
   pub n : ℕ
   pub g : Grammar
   pub known : TableView words places table n g
-  pub starts-at : start ≡ g.start
+  pub starts_at : start ≡ g.start
   pub above : Open g A
   pub follows : ChosenOpen measure g above
   pub long : n ≤ length path
@@ -128,14 +128,14 @@ pub record WayReady (side : Side) (words places table : List ℕ) (n : ℕ) (pat
     Type 0 where
   pub start : ℕ
   pub A : ℕ
-  pub path-of : PathOf words places table start A path steps
+  pub path_of : PathOf words places table start A path steps
   pub ready : SideReady side words places table n start A past
 
 -- what lies on that side of an open leaf is written, and the lengths grew by no more than its size
 pub record SideWrote {g : Grammar} {A : ℕ} (n : ℕ) (table : List ℕ) (side : Side) (above : Open g A)
     (tokens tokens' rules rules' : List ℕ) (past so : Lengths) : Type 0 where
-  pub wrote : Wrote (tokensOn side above) (rulesOn side above) tokens tokens' rules rules' past so
-  pub counted : so.tokens + so.rules ≤ past.tokens + past.rules + sizeOn n table side above
+  pub wrote : Wrote (tokens_on side above) (rules_on side above) tokens tokens' rules rules' past so
+  pub counted : so.tokens + so.rules ≤ past.tokens + past.rules + size_on n table side above
 
 -- it is listed, by whichever context choices
 abbrev pub SideListed : Side → List ℕ → List ℕ → List ℕ → ℕ → ℕ → ℕ → List ℕ → List ℕ → List ℕ → List ℕ → Lengths → Lengths →
@@ -155,7 +155,7 @@ WayListed side words places table n path steps tokens tokens' rules rules' past 
 pub record TreeReady (words places table : List ℕ) (n start r : ℕ) : Type 0 where
   pub g : Grammar
   pub known : TableView words places table n g
-  pub starts-at : start ≡ g.start
+  pub starts_at : start ≡ g.start
   pub accepted : Accepted limit g
   pub number : r < R g
 
@@ -170,7 +170,7 @@ TreeListed words places table n start r tokens tokens' rules rules' so =
 -- the same by the path that leads up from the rule's left side
 pub record AlongReady (words places table : List ℕ) (n r : ℕ) (path : List ℕ) (steps : ℕ) : Type 0 where
   pub start : ℕ
-  pub path-of : PathOf words places table start (left_of words places r) path steps
+  pub path_of : PathOf words places table start (left_of words places r) path steps
   pub ready : TreeReady words places table n start r
 
 abbrev pub AlongListed : List ℕ → List ℕ → List ℕ → ℕ → ℕ → List ℕ → ℕ → List ℕ → List ℕ → List ℕ → List ℕ → Lengths → Type 0

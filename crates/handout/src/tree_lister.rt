@@ -2,7 +2,7 @@
 // rule is listed from the start down, then the rule, then what lies after it from the rule up. The nonterminals on the way up are
 // noted on a path: contexts fall from each to the next, so that none comes twice.
 ghost use Rattle.handout.specs.Listing.{lengths, SymbolsListed};
-ghost use Rattle.handout.specs.TreeListing.{ClimbReady, PathOf, FrontReady, BackReady, FrontListed, backOf};
+ghost use Rattle.handout.specs.TreeListing.{ClimbReady, PathOf, FrontReady, BackReady, FrontListed, back_of};
 ghost use Rattle.handout.specs.TreeListing.{before, after, WayReady, WayListed, none_so_far, TreeReady, TreeListed};
 ghost use Rattle.handout.specs.TreeListing.{AlongReady, AlongListed};
 
@@ -114,7 +114,7 @@ fn list_back(
 ) -> usize
     requires { BackReady words.now places.now table.now n a (lengths past) }
     ensures { SymbolsListed words.now places.now table.now n
-        (backOf words.now places.now table.now a) sentence.old sentence.new
+        (back_of words.now places.now table.now a) sentence.old sentence.new
         derivation.old derivation.new
         (lengths past) (lengths result) }
 {

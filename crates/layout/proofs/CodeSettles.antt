@@ -6,33 +6,33 @@ use lib.ListN.{get_or}
 use denote.Ref.{Bor}
 use Rattle.grammar.specs.Words.{layout}
 use Rattle.layout.specs.Judge.{answer_of, places_of}
-use Rattle.layout.specs.Walk.{WalkPlace, walkStart, stepAt, walkAt, takenFrom}
+use Rattle.layout.specs.Walk.{WalkPlace, walk_start, step_at, walk_at, taken_from}
 use Rattle.layout.specs.declared.judge.LayoutAnswer.{LayoutAnswer}
 use Rattle.layout.specs.declared.judge.Reading.{Reading}
 use Rattle.layout.specs.declared.walk.Step.{Step}
 use Rattle.layout.specs.declared.walk.RuleWalk.{RuleWalk}
 use Rattle.layout.specs.declared.walk.Taken.{Taken}
 
-pub judge-settles : (ws : List ℕ) {r s : LayoutAnswer} → r ≡ answer_of (layout ws) → s ≡ answer_of (layout ws) → r ≡ s
-judge-settles ws p q = p ∙ sym q
+pub judge_settles : (ws : List ℕ) {r s : LayoutAnswer} → r ≡ answer_of (layout ws) → s ≡ answer_of (layout ws) → r ≡ s
+judge_settles ws p q = p ∙ sym q
 
-pub walk-start-settles : (words : Bor (List ℕ)) {r s : RuleWalk} → r ≡ walkAt words walkStart → s ≡ walkAt words walkStart → r ≡ s
-walk-start-settles words p q = p ∙ sym q
+pub walk_start_settles : (words : Bor (List ℕ)) {r s : RuleWalk} → r ≡ walk_at words walk_start → s ≡ walk_at words walk_start → r ≡ s
+walk_start_settles words p q = p ∙ sym q
 
 -- of `stands_at` and of `rule_from`
-pub walk-step-settles : (ws : List ℕ) (v : WalkPlace) {r s : Step} → r ≡ stepAt ws v → s ≡ stepAt ws v → r ≡ s
-walk-step-settles ws v p q = p ∙ sym q
+pub walk_step_settles : (ws : List ℕ) (v : WalkPlace) {r s : Step} → r ≡ step_at ws v → s ≡ step_at ws v → r ≡ s
+walk_step_settles ws v p q = p ∙ sym q
 
-pub walk-next-settles : (w : RuleWalk) {r s : Taken} → r ≡ takenFrom w → s ≡ takenFrom w → r ≡ s
-walk-next-settles w p q = p ∙ sym q
+pub walk_next_settles : (w : RuleWalk) {r s : Taken} → r ≡ taken_from w → s ≡ taken_from w → r ≡ s
+walk_next_settles w p q = p ∙ sym q
 
-pub word-settles : (ws : List ℕ) (i : ℕ) {r s : ℕ} → r ≡ get_or ws i 0 → s ≡ get_or ws i 0 → r ≡ s
-word-settles ws i p q = p ∙ sym q
+pub word_settles : (ws : List ℕ) (i : ℕ) {r s : ℕ} → r ≡ get_or ws i 0 → s ≡ get_or ws i 0 → r ≡ s
+word_settles ws i p q = p ∙ sym q
 
 -- the whole of what is read
-pub read-settles : (ws : List ℕ) {r s : Reading} → r.answer ≡ answer_of (layout ws) → r.places ≡ places_of (layout ws) →
+pub read_settles : (ws : List ℕ) {r s : Reading} → r.answer ≡ answer_of (layout ws) → r.places ≡ places_of (layout ws) →
     s.answer ≡ answer_of (layout ws) → s.places ≡ places_of (layout ws) → r ≡ s
-read-settles ws p e q f = λ i. record { answer = (p ∙ sym q) i; places = (e ∙ sym f) i }
+read_settles ws p e q f = λ i. record { answer = (p ∙ sym q) i; places = (e ∙ sym f) i }
 
-pub index-settles : (places : List ℕ) (k : ℕ) {r s : ℕ} → r ≡ get_or places k 0 → s ≡ get_or places k 0 → r ≡ s
-index-settles places k p q = p ∙ sym q
+pub index_settles : (places : List ℕ) (k : ℕ) {r s : ℕ} → r ≡ get_or places k 0 → s ≡ get_or places k 0 → r ≡ s
+index_settles places k p q = p ∙ sym q

@@ -9,8 +9,8 @@ use Rattle.grammar.specs.Words.{Grammar, R, Judged, reads, faults, layout, Fault
 use Rattle.layout.specs.Judge.{answer_of, WordsOf}
 use Rattle.layout.specs.declared.judge.LayoutAnswer.{LayoutAnswer}
 use Rattle.layout.specs.declared.judge.LayoutAnswer.TheVariants as answer
-use Rattle.grammar.proofs.LayoutExact.{layout-exact}
-use Rattle.grammar.proofs.FirstOffence.{layout-faults-exact}
+use Rattle.grammar.proofs.LayoutExact.{layout_exact}
+use Rattle.grammar.proofs.FirstOffence.{layout-faults_exact}
 
 answer-faults : (j : Judged Grammar) (p : ℕ) → answer_of j ≡ answer.Fault p → j ≡ faults p
 answer-faults (reads g) p e = absurd (let z : ◌≡◌ {A = ℕ} 0 1 = cc in omega arith)
@@ -23,22 +23,22 @@ answer-reads (faults q) N T S n e = absurd (let z : ◌≡◌ {A = ℕ} 0 1 = cc
 
 module _ (ws : List ℕ) {r : LayoutAnswer} (promise : r ≡ answer_of (layout ws)) where
   -- EXACT: the answer is a fault at p exactly where the words break first
-  pub judge-fault-exact : (p : ℕ) → (r ≡ answer.Fault p) ↔ FaultAt ws p
-  judge-fault-exact p =
-      let exact = layout-faults-exact ws p in
+  pub judge_fault_exact : (p : ℕ) → (r ≡ answer.Fault p) ↔ FaultAt ws p
+  judge_fault_exact p =
+      let exact = layout-faults_exact ws p in
       (λ e. exact.0 (answer-faults (layout ws) p (sym promise ∙ e)), λ f. promise ∙ ap answer_of (exact.1 f))
 
   -- EXACT: the answer is four numbers exactly where the words are those of a grammar that has them
-  pub judge-grammar-exact : (N T S n : ℕ) → (r ≡ answer.Grammar N T S n) ↔ WordsOf ws N T S n
-  judge-grammar-exact N T S n = (to, from)
+  pub judge_grammar_exact : (N T S n : ℕ) → (r ≡ answer.Grammar N T S n) ↔ WordsOf ws N T S n
+  judge_grammar_exact N T S n = (to, from)
     where
       to : r ≡ answer.Grammar N T S n → WordsOf ws N T S n
       to e =
           let h = answer-reads (layout ws) N T S n (sym promise ∙ e) in
-          let k = (layout-exact ws h.0).0 h.1 in
+          let k = (layout_exact ws h.0).0 h.1 in
           record { grammar = h.0; ok = k.0; are = k.1; nonterminals = h.2; terminals = h.3; start = h.4; rules = h.5 }
 
       from : WordsOf ws N T S n → r ≡ answer.Grammar N T S n
       from h =
-          promise ∙ ap answer_of ((layout-exact ws h.grammar).1 (h.ok, h.are))
+          promise ∙ ap answer_of ((layout_exact ws h.grammar).1 (h.ok, h.are))
           ∙ cc (h.nonterminals, h.terminals, h.start, h.rules)

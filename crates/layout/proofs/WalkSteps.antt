@@ -5,16 +5,16 @@ use Prim.Native.Nat.{ℕ, ◌+◌, ◌≤◌, ◌<◌}
 use lib.ListN.{length}
 use borrow.Author.Tests.{lt-ltb, le-ltb, le-leb, lt-leb}
 use Rattle.layout.specs.declared.walk.Step.TheVariants.{Rule, End}
-use Rattle.layout.specs.Walk.{WalkPlace, countAt, spanAt, stepAt}
+use Rattle.layout.specs.Walk.{WalkPlace, count_at, span_at, step_at}
 
 module _ (ws : List ℕ) (v : WalkPlace) where
   -- 256 rules went before
-  pub step-past-256 : 256 ≤ v.number → stepAt ws v ≡ End
-  step-past-256 h = rw (le-ltb v.number 256 h)
+  pub step_past_256 : 256 ≤ v.number → step_at ws v ≡ End
+  step_past_256 h = rw (le-ltb v.number 256 h)
 
   -- no whole rule stands there
-  pub step_cut : v.number < 256 → length ws < v.at + 2 + countAt ws v.at → stepAt ws v ≡ End
-  step_cut h l = rw (lt-ltb v.number 256 h, lt-leb (v.at + 2 + countAt ws v.at) (length ws) l)
+  pub step_cut : v.number < 256 → length ws < v.at + 2 + count_at ws v.at → step_at ws v ≡ End
+  step_cut h l = rw (lt-ltb v.number 256 h, lt-leb (v.at + 2 + count_at ws v.at) (length ws) l)
 
-  pub step-rule : v.number < 256 → v.at + 2 + countAt ws v.at ≤ length ws → stepAt ws v ≡ Rule (spanAt ws v)
-  step-rule h l = rw (lt-ltb v.number 256 h, le-leb (v.at + 2 + countAt ws v.at) (length ws) l)
+  pub step_rule : v.number < 256 → v.at + 2 + count_at ws v.at ≤ length ws → step_at ws v ≡ Rule (span_at ws v)
+  step_rule h l = rw (lt-ltb v.number 256 h, le-leb (v.at + 2 + count_at ws v.at) (length ws) l)

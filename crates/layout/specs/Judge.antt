@@ -14,12 +14,12 @@ answer_of (faults p) = answer.Fault p
 
 -- where the rules stand, in an array of 256: the index of each rule's left side, by number, and 0 past the rules; of words that
 -- are no grammar 0 throughout
-abbrev pub noPlaces : List ℕ
-noPlaces = replicate 256 0
+abbrev pub no_places : List ℕ
+no_places = replicate 256 0
 
 abbrev pub places_of : Judged Grammar → List ℕ
-places_of (reads g) = over (tabulate (place_of g) (R g)) noPlaces
-places_of (faults p) = noPlaces
+places_of (reads g) = over (tabulate (place_of g) (R g)) no_places
+places_of (faults p) = no_places
 
 -- the words are those of a grammar within bounds that has these numbers
 pub record WordsOf (ws : List ℕ) (N T S n : ℕ) : Type 0 where

@@ -8,7 +8,7 @@ pub record View (ws places : List ℕ) (n rules : ℕ) (g : Grammar) : Type 0 wh
   pub is : layout ws ≡ reads g
   pub begin : (k : ℕ) → k < R g → get_or places k 0 ≡ place_of g k
   pub nonterminals : n ≡ g.N
-  pub all-rules : rules ≡ R g
+  pub all_rules : rules ≡ R g
 
 -- the words are a grammar's, with this start besides
 pub record Begun (ws places : List ℕ) (n start rules : ℕ) : Type 0 where

@@ -17,56 +17,56 @@ abbrev pub place : ℕ → ℕ → WalkPlace
 place at number = record { at = at; number = number }
 
 -- before the first rule, which stands after N, T and the start
-abbrev pub walkStart : WalkPlace
-walkStart = place 3 0
+abbrev pub walk_start : WalkPlace
+walk_start = place 3 0
 
 -- the rule's count, which stands after its left side, and 0 past the end
-abbrev pub countAt : List ℕ → ℕ → ℕ
-countAt ws at = get_or ws (at + 1) 0
+abbrev pub count_at : List ℕ → ℕ → ℕ
+count_at ws at = get_or ws (at + 1) 0
 
 -- the rule at a place
-abbrev pub spanAt : List ℕ → WalkPlace → RuleSpan
-spanAt ws v =
+abbrev pub span_at : List ℕ → WalkPlace → RuleSpan
+span_at ws v =
     record {
       number = v.number;
       left = get_or ws v.at 0;
-      count = countAt ws v.at;
+      count = count_at ws v.at;
       first = v.at + 2;
-      end = v.at + 2 + countAt ws v.at;
+      end = v.at + 2 + count_at ws v.at;
     }
 
-abbrev pub orEnd : Bool → Step → Step
-orEnd true s = s
-orEnd false s = End
+abbrev pub or_end : Bool → Step → Step
+or_end true s = s
+or_end false s = End
 
 -- "at most 256" rules, each whole: else the walk is at its end
-abbrev pub stepAt : List ℕ → WalkPlace → Step
-stepAt ws v =
-    orEnd (ltb v.number 256) (orEnd (leb (v.at + 2 + countAt ws v.at) (length ws)) (Rule (spanAt ws v)))
+abbrev pub step_at : List ℕ → WalkPlace → Step
+step_at ws v =
+    or_end (ltb v.number 256) (or_end (leb (v.at + 2 + count_at ws v.at) (length ws)) (Rule (span_at ws v)))
 
 -- the place past a rule, which is the next rule's
-abbrev pub pastRule : RuleSpan → WalkPlace
-pastRule s = place s.end (s.number + 1)
+abbrev pub past_rule : RuleSpan → WalkPlace
+past_rule s = place s.end (s.number + 1)
 
-abbrev pub pastStep : Step → WalkPlace → WalkPlace
-pastStep (Rule s) v = pastRule s
-pastStep End v = v
+abbrev pub past_step : Step → WalkPlace → WalkPlace
+past_step (Rule s) v = past_rule s
+past_step End v = v
 
 -- the place after what stands at a place: at its end a walk stays
-abbrev pub placeAfter : List ℕ → WalkPlace → WalkPlace
-placeAfter ws v = pastStep (stepAt ws v) v
+abbrev pub place_after : List ℕ → WalkPlace → WalkPlace
+place_after ws v = past_step (step_at ws v) v
 
 -- a walk is lent words and a place in them
-abbrev pub walkAt : Bor (List ℕ) → WalkPlace → RuleWalk
-walkAt words v = record { words = words; at = v.at; number = v.number }
+abbrev pub walk_at : Bor (List ℕ) → WalkPlace → RuleWalk
+walk_at words v = record { words = words; at = v.at; number = v.number }
 
 abbrev pub place_in : RuleWalk → WalkPlace
 place_in w = place w.at w.number
 
 -- the walk goes on over the same words
-abbrev pub walkPast : RuleWalk → RuleWalk
-walkPast w = walkAt w.words (placeAfter w.words.now (place_in w))
+abbrev pub walk_past : RuleWalk → RuleWalk
+walk_past w = walk_at w.words (place_after w.words.now (place_in w))
 
 -- the rule that comes next, and the walk after it
-abbrev pub takenFrom : RuleWalk → Taken
-takenFrom w = record { step = stepAt w.words.now (place_in w); walk = walkPast w }
+abbrev pub taken_from : RuleWalk → Taken
+taken_from w = record { step = step_at w.words.now (place_in w); walk = walk_past w }

@@ -2,7 +2,7 @@
 // order in which the words are read, which also notes where each rule stands.
 ghost use Rattle.std.specs.Prelude.{◌≡◌, ◌≤◌, ◌<◌, length};
 ghost use Rattle.grammar.specs.Words.{layout};
-ghost use Rattle.layout.specs.Judge.{answer_of, noPlaces, places_of};
+ghost use Rattle.layout.specs.Judge.{answer_of, no_places, places_of};
 ghost use Rattle.layout.specs.JudgeParts.{FirstUnfit, Head, Headed, Symbols, SymbolsEnd, Ruled, RuleEnds, RulesNumbered, PlacesTold};
 
 use crate::walk::{FIRST_RULE, MOST_RULES};
@@ -62,7 +62,7 @@ pub fn read(words: &[u16]) -> Reading
 
 // What words are, and where the rules of a grammar stand into an array of 0.
 fn note(words: &[u16], places: &mut [u16; 256]) -> LayoutAnswer
-    requires { places.old ≡ noPlaces }
+    requires { places.old ≡ no_places }
     ensures value { result ≡ answer_of (layout words.now) }
     ensures places_after { places.new ≡ places_of (layout words.now) }
 {
@@ -75,7 +75,7 @@ fn note(words: &[u16], places: &mut [u16; 256]) -> LayoutAnswer
 // No grammar.
 fn fault(place: usize, places: &mut [u16; 256]) -> LayoutAnswer
     ensures value { result ≡ LayoutAnswer.Fault place }
-    ensures places_after { places.new ≡ noPlaces }
+    ensures places_after { places.new ≡ no_places }
 {
     *places = [0u16; 256];
     LayoutAnswer::Fault { place }
@@ -111,7 +111,7 @@ fn judge_head(words: &[u16]) -> Part
 // The rules of words whose head is fit.
 fn note_after_head(words: &[u16], at: usize, places: &mut [u16; 256]) -> LayoutAnswer
     requires head { Head words.now at }
-    requires places_value { places.old ≡ noPlaces }
+    requires places_value { places.old ≡ no_places }
     ensures value { result ≡ answer_of (layout words.now) }
     ensures places_after { places.new ≡ places_of (layout words.now) }
 {

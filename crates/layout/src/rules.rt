@@ -1,6 +1,6 @@
 // The rules of grammar words by number: where each stands, as `judge::read` notes it, and its right side.
 ghost use Rattle.std.specs.Prelude.{◌≡◌, ◌≤◌, ◌<◌, length, get_or};
-ghost use Rattle.layout.specs.Rules.{rightAt};
+ghost use Rattle.layout.specs.Rules.{right_at};
 
 use crate::words::word;
 
@@ -13,7 +13,7 @@ pub fn index(places: &[u16], number: usize) -> usize
 
 // The symbols of the rule whose left side is at an index; none where no whole rule stands there.
 pub fn right(words: &[u16], at: usize) -> &[u16]
-    ensures result_value { result.now ≡ rightAt words.now at }
+    ensures result_value { result.now ≡ right_at words.now at }
     ensures result_len_bound { length result.now ≤ 65535 }
 {
     let len = words.len();

@@ -2,7 +2,7 @@
 // function over such a struct, so each of those is thin and proved by hand; the work is in `step_at`, over plain words. Who
 // loops over the rules calls `rule_from`, and needs no walk by hand.
 ghost use Rattle.std.specs.Prelude.{◌≡◌};
-ghost use Rattle.layout.specs.Walk.{place, place_in, walkAt, walkStart, stepAt, placeAfter, walkPast, takenFrom};
+ghost use Rattle.layout.specs.Walk.{place, place_in, walk_at, walk_start, step_at, place_after, walk_past, taken_from};
 
 use crate::words::word;
 
@@ -47,7 +47,7 @@ pub struct Taken<'a> {
 impl<'a> RuleWalk<'a> {
     // The walk before the first rule.
     pub fn start(words: &'a [u16]) -> RuleWalk<'a>
-        ensures { result ≡ walkAt words.entry walkStart }
+        ensures { result ≡ walk_at words.entry walk_start }
     {
         RuleWalk {
             words,
@@ -58,14 +58,14 @@ impl<'a> RuleWalk<'a> {
 
     // The rule at the walk's place; End where no whole rule stands there, or 256 went before.
     pub fn stands_at(self) -> Step
-        ensures { result ≡ stepAt self.entry.words.now (place_in self.entry) }
+        ensures { result ≡ step_at self.entry.words.now (place_in self.entry) }
     {
         step_at(self.words, self.at, self.number)
     }
 
     // The walk past that rule; the same walk where there is none.
     fn past(self) -> RuleWalk<'a>
-        ensures { result ≡ walkPast self.entry }
+        ensures { result ≡ walk_past self.entry }
     {
         let at = index_after(self.words, self.at, self.number);
         let number = number_after(self.words, self.at, self.number);
@@ -78,7 +78,7 @@ impl<'a> RuleWalk<'a> {
 
     // The next rule, and the walk after it.
     pub fn next(self) -> Taken<'a>
-        ensures { result ≡ takenFrom self.entry }
+        ensures { result ≡ taken_from self.entry }
     {
         Taken {
             step: self.stands_at(),
@@ -89,7 +89,7 @@ impl<'a> RuleWalk<'a> {
 
 // The rule at a place, by a walk that is made here.
 pub fn rule_from(words: &[u16], at: usize, number: usize) -> Step
-    ensures { result ≡ stepAt words.now (place at number) }
+    ensures { result ≡ step_at words.now (place at number) }
 {
     let walk = RuleWalk { words, at, number };
     walk.stands_at()
@@ -97,7 +97,7 @@ pub fn rule_from(words: &[u16], at: usize, number: usize) -> Step
 
 // The rule at an index, if fewer than 256 went before.
 fn step_at(words: &[u16], at: usize, number: usize) -> Step
-    ensures { result ≡ stepAt words.now (place at number) }
+    ensures { result ≡ step_at words.now (place at number) }
 {
     let len = words.len();
     if MOST_RULES <= number {
@@ -126,7 +126,7 @@ fn step_at(words: &[u16], at: usize, number: usize) -> Step
 
 // The index past the rule at a place; the same index where there is none.
 fn index_after(words: &[u16], at: usize, number: usize) -> usize
-    ensures { result ≡ (placeAfter words.now (place at number)).at }
+    ensures { result ≡ (place_after words.now (place at number)).at }
 {
     match step_at(words, at, number) {
         Step::Rule(span) => span.end,
@@ -136,7 +136,7 @@ fn index_after(words: &[u16], at: usize, number: usize) -> usize
 
 // The number past that of the rule at a place; the same number where there is none.
 fn number_after(words: &[u16], at: usize, number: usize) -> usize
-    ensures { result ≡ (placeAfter words.now (place at number)).number }
+    ensures { result ≡ (place_after words.now (place at number)).number }
 {
     match step_at(words, at, number) {
         Step::Rule(_) => number + 1,

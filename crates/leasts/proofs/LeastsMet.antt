@@ -14,23 +14,23 @@ use Rattle.grammar.specs.Tree.{Tree, ◌∈◌}
 use Rattle.grammar.specs.Terms.{measure}
 use Rattle.grammar.specs.Least.{Least}
 use Rattle.grammar.specs.Certificates.{word_size}
-use Rattle.grammar.proofs.LayoutExact.{in_bounds, rule-at}
+use Rattle.grammar.proofs.LayoutExact.{in_bounds, rule_at}
 use Rattle.grammar.proofs.LeastsExist.{least?, tree?}
-use Rattle.grammar.proofs.RuleNumbers.{rule-right, rule-number}
+use Rattle.grammar.proofs.RuleNumbers.{rule_right, rule_number}
 use Rattle.grammar.proofs.Search.{member?, some_below}
 use Rattle.layout.specs.Judge.{answer_of, places_of}
-use Rattle.figures.specs.Figures.{noFigure, figure, capped}
-use Rattle.figures.proofs.FiguresFall.{figure-is}
-use Rattle.leasts.specs.Promise.{LeastFigure, of_tree, no-tree, HaveTrees, SizeFigure, of-trees, no-trees}
-use Rattle.leasts.specs.Promise.{FiguresOf, noLeasts, noSizes, Figured, LeastsOf}
+use Rattle.figures.specs.Figures.{no_figure, figure, capped}
+use Rattle.figures.proofs.FiguresFall.{figure_is}
+use Rattle.leasts.specs.Promise.{LeastFigure, of_tree, no_tree, HaveTrees, SizeFigure, of_trees, no_trees}
+use Rattle.leasts.specs.Promise.{FiguresOf, no_leasts, no_sizes, Figured, LeastsOf}
 use Rattle.leasts.specs.declared.FoundLeasts.{FoundLeasts}
 
 -- words by their places
 at_place : (f : ℕ → ℕ) (n i d : ℕ) → i < n → get_or (tabulate f n) i d ≡ f i
-at_place f n i d h = getD-same (tabulate f n) i (omega (arith, length-tabulate f n)) ∙ get_d_tabulate f n i h
+at_place f n i d h = get_d_same (tabulate f n) i (omega (arith, length-tabulate f n)) ∙ get_d_tabulate f n i h
   where
-    getD-same : (xs : List ℕ) (i : ℕ) → i < length xs → get_or xs i d ≡ get_or xs i 0
-    getD-same xs i l = figure-is xs i d l ∙ sym (figure-is xs i 0 l)
+    get_d_same : (xs : List ℕ) (i : ℕ) → i < length xs → get_or xs i d ≡ get_or xs i 0
+    get_d_same xs i l = figure_is xs i d l ∙ sym (figure_is xs i 0 l)
 
 past_end : (f : ℕ → ℕ) (n i d : ℕ) → n ≤ i → get_or (tabulate f n) i d ≡ d
 past_end f n i d h = get_or-eq_default (tabulate f n) d {n = i} (omega (arith, length-tabulate f n))
@@ -38,25 +38,25 @@ past_end f n i d h = get_or-eq_default (tabulate f n) d {n = i} (omega (arith, l
 module _ (g : Grammar) (ok : InBounds g) where
   -- THE LEASTS
   abbrev LeastAt : ℕ → Type 0
-  LeastAt A = (x : ℕ) × (A < g.N → LeastFigure g A x) × (g.N ≤ A → x ≡ noFigure)
+  LeastAt A = (x : ℕ) × (A < g.N → LeastFigure g A x) × (g.N ≤ A → x ≡ no_figure)
 
   least_at : (A : ℕ) → LeastAt A
   least_at A = go (dec_lt A g.N)
     where
       of : A < g.N → ((x : ℕ) × Least measure g A x) ⊎ ¬ Tree g A → LeastAt A
       of lt (inl (x, least)) = (capped x, λ l. of_tree least, λ past. absurd (omega arith))
-      of lt (inr none) = (noFigure, λ l. no-tree none, λ past. refl)
+      of lt (inr none) = (no_figure, λ l. no_tree none, λ past. refl)
 
       go : Dec (A < g.N) → LeastAt A
       go (yes lt) = of lt (least? measure g A lt)
-      go (no ge) = (noFigure, λ lt. absurd (ge lt), λ past. refl)
+      go (no ge) = (no_figure, λ lt. absurd (ge lt), λ past. refl)
 
   abbrev leasts : List ℕ
   leasts = tabulate (λ A. (least_at A).0) 128
 
   -- THE SIZES
-  have-trees? : (w : List ℕ) → Dec (HaveTrees g w)
-  have-trees? w = go (some_below (λ B. (B < g.N) × (B ∈ w × ¬ Tree g B)) (λ B. lacks? B (dec_lt B g.N) (member? B w)) g.N)
+  have_trees? : (w : List ℕ) → Dec (HaveTrees g w)
+  have_trees? w = go (some_below (λ B. (B < g.N) × (B ∈ w × ¬ Tree g B)) (λ B. lacks? B (dec_lt B g.N) (member? B w)) g.N)
     where
       lacking? : (B : ℕ) → B < g.N → B ∈ w → Tree g B ⊎ ¬ Tree g B → Dec ((B < g.N) × (B ∈ w × ¬ Tree g B))
       lacking? B lt m (inl t) = no (λ z. z.1.1 t)
@@ -78,51 +78,51 @@ module _ (g : Grammar) (ok : InBounds g) where
   abbrev SizeAt : ℕ → Type 0
   SizeAt k = (x : ℕ) × ((A : ℕ) (w : List ℕ) → RuleAt g k A w → SizeFigure g leasts w x) × (R g ≤ k → x ≡ 0)
 
-  size-at : (k : ℕ) → SizeAt k
-  size-at k = go (dec_lt k (R g))
+  size_at : (k : ℕ) → SizeAt k
+  size_at k = go (dec_lt k (R g))
     where
       of : (A : ℕ) (w : List ℕ) → RuleAt g k A w → k < R g → Dec (HaveTrees g w) → SizeAt k
       of A w r lt (yes trees) = (
         1 + word_size measure g (figure leasts) w,
-        λ B u q. rw (rule-right refl q r) (of-trees trees),
+        λ B u q. rw (rule_right refl q r) (of_trees trees),
         λ past. absurd (omega arith),
       )
-      of A w r lt (no lacks) = (0, λ B u q. no-trees (rw (rule-right refl q r) lacks), λ past. refl)
+      of A w r lt (no lacks) = (0, λ B u q. no_trees (rw (rule_right refl q r) lacks), λ past. refl)
 
       go : Dec (k < R g) → SizeAt k
-      go (yes lt) = let (A, w, r) = rule-at ok k lt in of A w r lt (have-trees? w)
-      go (no ge) = (0, λ A w r. absurd (ge (rule-number r)), λ past. refl)
+      go (yes lt) = let (A, w, r) = rule_at ok k lt in of A w r lt (have_trees? w)
+      go (no ge) = (0, λ A w r. absurd (ge (rule_number r)), λ past. refl)
 
   abbrev sizes : List ℕ
-  sizes = tabulate (λ k. (size-at k).0) 256
+  sizes = tabulate (λ k. (size_at k).0) 256
 
-  figures-met : FiguresOf g leasts sizes
-  figures-met = record {
+  figures_met : FiguresOf g leasts sizes
+  figures_met = record {
     long = length-tabulate (λ A. (least_at A).0) 128;
-    least = λ A lt. rw (at_place (λ A. (least_at A).0) 128 A noFigure (omega (arith, ok.nonterminals))) ((least_at A).1 lt);
-    no-least = λ A past. no-least A past (dec_lt A 128);
-    sizes-long = length-tabulate (λ k. (size-at k).0) 256;
+    least = λ A lt. rw (at_place (λ A. (least_at A).0) 128 A no_figure (omega (arith, ok.nonterminals))) ((least_at A).1 lt);
+    no_least = λ A past. no_least A past (dec_lt A 128);
+    sizes_long = length-tabulate (λ k. (size_at k).0) 256;
     size = λ k A w r.
-        let l = rule-number r in
-        rw (at_place (λ k. (size-at k).0) 256 k 0 (omega (arith, ok.at-most-256))) ((size-at k).1 A w r);
+        let l = rule_number r in
+        rw (at_place (λ k. (size_at k).0) 256 k 0 (omega (arith, ok.at_most_256))) ((size_at k).1 A w r);
     no_size = λ k past. no_size k past (dec_lt k 256);
   }
     where
-      no-least : (A : ℕ) → g.N ≤ A → Dec (A < 128) → figure leasts A ≡ noFigure
-      no-least A past (yes l) = at_place (λ A. (least_at A).0) 128 A noFigure l ∙ (least_at A).2 past
-      no-least A past (no l) = past_end (λ A. (least_at A).0) 128 A noFigure (omega arith)
+      no_least : (A : ℕ) → g.N ≤ A → Dec (A < 128) → figure leasts A ≡ no_figure
+      no_least A past (yes l) = at_place (λ A. (least_at A).0) 128 A no_figure l ∙ (least_at A).2 past
+      no_least A past (no l) = past_end (λ A. (least_at A).0) 128 A no_figure (omega arith)
 
       no_size : (k : ℕ) → R g ≤ k → Dec (k < 256) → get_or sizes k 0 ≡ 0
-      no_size k past (yes l) = at_place (λ k. (size-at k).0) 256 k 0 l ∙ (size-at k).2 past
-      no_size k past (no l) = past_end (λ k. (size-at k).0) 256 k 0 (omega arith)
+      no_size k past (yes l) = at_place (λ k. (size_at k).0) 256 k 0 l ∙ (size_at k).2 past
+      no_size k past (no l) = past_end (λ k. (size_at k).0) 256 k 0 (omega arith)
 
-figured-met : (ws : List ℕ) (j : Judged Grammar) → layout ws ≡ j → (leasts : List ℕ) × (sizes : List ℕ) × Figured j leasts sizes
-figured-met ws (reads g) e = let ok = in_bounds ws e in (leasts g ok, sizes g ok, figures-met g ok)
-figured-met ws (faults p) e = (noLeasts, noSizes, (refl, refl))
+figured_met : (ws : List ℕ) (j : Judged Grammar) → layout ws ≡ j → (leasts : List ℕ) × (sizes : List ℕ) × Figured j leasts sizes
+figured_met ws (reads g) e = let ok = in_bounds ws e in (leasts g ok, sizes g ok, figures_met g ok)
+figured_met ws (faults p) e = (no_leasts, no_sizes, (refl, refl))
 
 -- MET
-pub leasts-met : (ws : List ℕ) → (r : FoundLeasts) × LeastsOf ws r
-leasts-met ws =
-    let (leasts, sizes, figured) = figured-met ws (layout ws) refl in
+pub leasts_met : (ws : List ℕ) → (r : FoundLeasts) × LeastsOf ws r
+leasts_met ws =
+    let (leasts, sizes, figured) = figured_met ws (layout ws) refl in
     let r : FoundLeasts = record { answer = answer_of (layout ws); places = places_of (layout ws); leasts = leasts; sizes = sizes } in
     (r, record { answer = refl; places = refl; figures = figured })

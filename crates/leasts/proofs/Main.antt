@@ -8,7 +8,7 @@ use Rattle.grammar.specs.Words.{Grammar, layout, reads}
 use Rattle.grammar.specs.Tree.{Tree}
 use Rattle.grammar.specs.Terms.{measure, limit}
 use Rattle.grammar.specs.Least.{Least}
-use Rattle.figures.specs.Figures.{noFigure, figure}
+use Rattle.figures.specs.Figures.{no_figure, figure}
 use Rattle.leasts.specs.Promise.{LeastsOf}
 use Rattle.leasts.specs.declared.FoundLeasts.{FoundLeasts}
 use Rattle.leasts.proofs.LeastsSettle as LeastsSettle
@@ -16,18 +16,18 @@ use Rattle.leasts.proofs.LeastsMet as LeastsMet
 use Rattle.leasts.proofs.LeastsExact as LeastsExact
 
 -- LEASTS. Its promise allows exactly one outcome for each words.
-pub leasts-settles : (words : List ℕ) {r s : FoundLeasts} → LeastsOf words r → LeastsOf words s → r ≡ s
-leasts-settles = LeastsSettle.leasts-settles
+pub leasts_settles : (words : List ℕ) {r s : FoundLeasts} → LeastsOf words r → LeastsOf words s → r ≡ s
+leasts_settles = LeastsSettle.leasts_settles
 
-pub leasts-met : (words : List ℕ) → (r : FoundLeasts) × LeastsOf words r
-leasts-met = LeastsMet.leasts-met
+pub leasts_met : (words : List ℕ) → (r : FoundLeasts) × LeastsOf words r
+leasts_met = LeastsMet.leasts_met
 
 -- Where the words are a grammar, a nonterminal has no figure exactly where it has no complete tree, and a figure up to the limit
 -- exactly where that is its least.
-pub no-figure-exactly : (words : List ℕ) {g : Grammar} → layout words ≡ reads g → {r : FoundLeasts} → LeastsOf words r →
-    (A : ℕ) → A < g.N → (figure r.leasts A ≡ noFigure) ↔ ¬ Tree g A
-no-figure-exactly words e p = LeastsExact.no-figure-exactly words e p
+pub no_figure_exactly : (words : List ℕ) {g : Grammar} → layout words ≡ reads g → {r : FoundLeasts} → LeastsOf words r →
+    (A : ℕ) → A < g.N → (figure r.leasts A ≡ no_figure) ↔ ¬ Tree g A
+no_figure_exactly words e p = LeastsExact.no_figure_exactly words e p
 
-pub least-exactly : (words : List ℕ) {g : Grammar} → layout words ≡ reads g → {r : FoundLeasts} → LeastsOf words r →
+pub least_exactly : (words : List ℕ) {g : Grammar} → layout words ≡ reads g → {r : FoundLeasts} → LeastsOf words r →
     (A : ℕ) → A < g.N → (x : ℕ) → x ≤ limit → (figure r.leasts A ≡ x) ↔ Least measure g A x
-least-exactly words e p = LeastsExact.least-exactly words e p
+least_exactly words e p = LeastsExact.least_exactly words e p

@@ -22,8 +22,8 @@ pub record Turns (g : Grammar) (up : Bool) (rules i : ℕ) (before after : List 
   pub still : n ≡ 0 → (after ≡ before) × ((j : ℕ) → j < i → QuietIfSound g before (turn up rules j))
 
 module _ (g : Grammar) {up : Bool} {rules : ℕ} where
-  turns-none : (vs : List ℕ) → Turns g up rules 0 vs vs 0
-  turns-none vs = record { keeps = λ s. s; still = λ e. (refl, λ j h. absurd (omega arith)) }
+  turns_none : (vs : List ℕ) → Turns g up rules 0 vs vs 0
+  turns_none vs = record { keeps = λ s. s; still = λ e. (refl, λ j h. absurd (omega arith)) }
 
   turns_more : {i m n : ℕ} {vs us xs : List ℕ} →
       Turns g up rules i vs us m → Turn g (turn up rules i) us xs n → Turns g up rules (i + 1) vs xs (m + n)
@@ -35,8 +35,8 @@ module _ (g : Grammar) {up : Bool} {rules : ℕ} where
           let (q', last) = u.still (omega arith) in
           (q' ∙ q, below_more _ i quiet (rw q at last))
 
-  turns-all : {n : ℕ} {vs us : List ℕ} → Turns g up rules rules vs us n → Round g rules vs us n
-  turns-all {vs = vs} t = record {
+  turns_all : {n : ℕ} {vs us : List ℕ} → Turns g up rules rules vs us n → Round g rules vs us n
+  turns_all {vs = vs} t = record {
     keeps = t.keeps;
     still = λ e. ((t.still e).0, each_turn (QuietIfSound g vs) up rules (t.still e).1);
   }
@@ -55,7 +55,7 @@ module _ {ws places : List ℕ} {n rules : ℕ} where
     same_length = refl;
     few = omega arith;
     fallen = omega arith;
-    turns = λ g view. turns-none g vs;
+    turns = λ g view. turns_none g vs;
   }
 
   -- the turn of rule k
@@ -71,9 +71,9 @@ module _ {ws places : List ℕ} {n rules : ℕ} where
     turns = λ g view. turns_more g (so_far.turns g view) (rw in-turn at (last g view));
   }
 
-  pub all-so-far : {up : Bool} {i m : ℕ} {vs us : List ℕ} → SoFar ws places n rules up i vs us m → i ≡ rules →
+  pub all_so_far : {up : Bool} {i m : ℕ} {vs us : List ℕ} → SoFar ws places n rules up i vs us m → i ≡ rules →
       (g : Grammar) → View ws places n rules g → Round g rules vs us m
-  all-so-far so_far end g view = turns-all g (rw end at (so_far.turns g view))
+  all_so_far so_far end g view = turns_all g (rw end at (so_far.turns g view))
 
 -- A ROUND from sound leasts leaves sound leasts, and where nothing fell every rule is quiet
 pub rounded : {g : Grammar} {rules k : ℕ} {vs us : List ℕ} → Round g rules vs us k → LeastsSound g vs → Rounded g rules us k

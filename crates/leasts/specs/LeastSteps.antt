@@ -5,7 +5,7 @@ use Rattle.grammar.specs.Words.{Grammar, RuleAt}
 use Rattle.grammar.specs.Tree.{◌∈◌}
 use Rattle.grammar.specs.Terms.{measure}
 use Rattle.grammar.specs.Certificates.{word_size}
-use Rattle.grammar.specs.Caps.{OfTree, measureCap}
+use Rattle.grammar.specs.Caps.{OfTree, measure_cap}
 use Rattle.figures.specs.Figures.{figure, Has, capped, Lowered}
 
 -- the nonterminals among some symbols have figures
@@ -14,7 +14,7 @@ HaveIn n vs w = (B : ℕ) → B ∈ w → B < n → Has vs B
 
 -- each figure is the cut of what some tree costs; so only nonterminals have one
 abbrev pub LeastsSound : Grammar → List ℕ → Type 0
-LeastsSound g vs = (A : ℕ) → Has vs A → OfTree measure measureCap g A (figure vs A)
+LeastsSound g vs = (A : ℕ) → Has vs A → OfTree measure measure_cap g A (figure vs A)
 
 -- a rule, all of whose nonterminals have figures, does not lower the figure of its left side
 abbrev pub LeastQuiet : Grammar → List ℕ → ℕ → Type 0
@@ -30,7 +30,7 @@ pub record SizeOf (n : ℕ) (vs w : List ℕ) (x : ℕ) : Type 0 where
 
 -- that, or 0 where a symbol has no figure
 pub data Sized (n : ℕ) (vs w : List ℕ) : ℕ → Type 0 where
-  has-size : {x : ℕ} → SizeOf n vs w x → Sized n vs w x
+  has_size : {x : ℕ} → SizeOf n vs w x → Sized n vs w x
   no_size : ¬ HaveIn n vs w → Sized n vs w 0
 
 -- a rule with the left side A and the symbols w lowers the figure of A, where its symbols have sizes and are not too many
@@ -45,14 +45,14 @@ QuietIfSound g vs r = LeastsSound g vs → LeastQuiet g vs r
 
 -- a rule of number r with the left side A and the symbols w notes its size, and says whether it would lower the figure of A
 pub data SizeStep (A : ℕ) (w : List ℕ) (n : ℕ) (vs : List ℕ) (r : ℕ) (before : List ℕ) : List ℕ → Bool → Type 0 where
-  has-none : ¬ HaveIn n vs w → SizeStep A w n vs r before (set before r 0) true
+  has_none : ¬ HaveIn n vs w → SizeStep A w n vs r before (set before r 0) true
   lowers : (x : ℕ) → SizeOf n vs w x → capped x < figure vs A → SizeStep A w n vs r before (set before r x) false
   noted : (x : ℕ) → SizeOf n vs w x → figure vs A ≤ capped x → SizeStep A w n vs r before (set before r x) true
 
 -- x is the size of rule r by the figures vs, or 0 where it has none
 pub data SizeBy (g : Grammar) (vs w : List ℕ) : ℕ → Type 0 where
-  by-figures : HaveIn g.N vs w → SizeBy g vs w (1 + word_size measure g (figure vs) w)
-  by-none : ¬ HaveIn g.N vs w → SizeBy g vs w 0
+  by_figures : HaveIn g.N vs w → SizeBy g vs w (1 + word_size measure g (figure vs) w)
+  by_none : ¬ HaveIn g.N vs w → SizeBy g vs w 0
 
 abbrev pub SizeHere : Grammar → List ℕ → ℕ → ℕ → Type 0
 SizeHere g vs r x = (A : ℕ) (w : List ℕ) → RuleAt g r A w → SizeBy g vs w x

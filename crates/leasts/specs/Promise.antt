@@ -1,7 +1,7 @@
 -- What `leasts` promises, for any words. Document 01: "Least(A) is the smallest size of a complete tree rooted at A. A rule's size
 -- is 1 plus the sizes of its symbols, terminals counting 1 and nonterminals their least." The answer and the places are the
 -- judge's. Of a grammar the leasts are cut at document 01's limit and one more, and a nonterminal without a complete tree has
--- `noFigure`; the sizes are the sums by these leasts, uncut, and a rule that names a nonterminal without a tree has 0. Assumes
+-- `no_figure`; the sizes are the sums by these leasts, uncut, and a rule that names a nonterminal without a tree has 0. Assumes
 -- nothing.
 use Rattle.std.specs.Prelude.{ℕ, ◌+◌, ◌≤◌, ◌<◌, ◌≡◌, List, length, get_or, replicate}
 use Rattle.grammar.specs.Words.{Grammar, RuleAt, R, Judged, layout, reads, faults}
@@ -10,13 +10,13 @@ use Rattle.grammar.specs.Terms.{measure}
 use Rattle.grammar.specs.Least.{Least}
 use Rattle.grammar.specs.Certificates.{word_size}
 use Rattle.layout.specs.Judge.{answer_of, places_of}
-use Rattle.figures.specs.Figures.{noFigure, figure, capped}
+use Rattle.figures.specs.Figures.{no_figure, figure, capped}
 use Rattle.leasts.specs.declared.FoundLeasts.{FoundLeasts}
 
 -- the figure of a nonterminal
 pub data LeastFigure (g : Grammar) (A : ℕ) : ℕ → Type 0 where
   of_tree : {x : ℕ} → Least measure g A x → LeastFigure g A (capped x)
-  no-tree : ¬ Tree g A → LeastFigure g A noFigure
+  no_tree : ¬ Tree g A → LeastFigure g A no_figure
 
 -- every nonterminal among some symbols has a complete tree
 abbrev pub HaveTrees : Grammar → List ℕ → Type 0
@@ -24,28 +24,28 @@ HaveTrees g w = (B : ℕ) → B ∈ w → B < g.N → Tree g B
 
 -- the size of a rule with the symbols w
 pub data SizeFigure (g : Grammar) (leasts w : List ℕ) : ℕ → Type 0 where
-  of-trees : HaveTrees g w → SizeFigure g leasts w (1 + word_size measure g (figure leasts) w)
-  no-trees : ¬ HaveTrees g w → SizeFigure g leasts w 0
+  of_trees : HaveTrees g w → SizeFigure g leasts w (1 + word_size measure g (figure leasts) w)
+  no_trees : ¬ HaveTrees g w → SizeFigure g leasts w 0
 
 -- for each of 128 nonterminals and 256 rules; there is nothing past those that the grammar has
 pub record FiguresOf (g : Grammar) (leasts sizes : List ℕ) : Type 0 where
   pub long : length leasts ≡ 128
   pub least : (A : ℕ) → A < g.N → LeastFigure g A (figure leasts A)
-  pub no-least : (A : ℕ) → g.N ≤ A → figure leasts A ≡ noFigure
-  pub sizes-long : length sizes ≡ 256
+  pub no_least : (A : ℕ) → g.N ≤ A → figure leasts A ≡ no_figure
+  pub sizes_long : length sizes ≡ 256
   pub size : (k A : ℕ) (w : List ℕ) → RuleAt g k A w → SizeFigure g leasts w (get_or sizes k 0)
   pub no_size : (k : ℕ) → R g ≤ k → get_or sizes k 0 ≡ 0
 
 -- at the outset, and of words that are no grammar
-abbrev pub noLeasts : List ℕ
-noLeasts = replicate 128 noFigure
+abbrev pub no_leasts : List ℕ
+no_leasts = replicate 128 no_figure
 
-abbrev pub noSizes : List ℕ
-noSizes = replicate 256 0
+abbrev pub no_sizes : List ℕ
+no_sizes = replicate 256 0
 
 abbrev pub Figured : Judged Grammar → List ℕ → List ℕ → Type 0
 Figured (reads g) leasts sizes = FiguresOf g leasts sizes
-Figured (faults p) leasts sizes = (leasts ≡ noLeasts) × (sizes ≡ noSizes)
+Figured (faults p) leasts sizes = (leasts ≡ no_leasts) × (sizes ≡ no_sizes)
 
 -- THE PROMISE
 pub record LeastsOf (words : List ℕ) (r : FoundLeasts) : Type 0 where

@@ -10,17 +10,17 @@ use Rattle.lines.specs.Lines.{space, spaced}
 use Rattle.lines.specs.Room.{LineWritten}
 use Rattle.lines.proofs.WrittenInRoom.{and_then}
 
-pub spaced-append : (u v : List ℕ) → spaced (u ++ v) ≡ spaced u ++ spaced v
+pub spaced_append : (u v : List ℕ) → spaced (u ++ v) ≡ spaced u ++ spaced v
 unfolding spaced
-spaced-append [] v = refl
-spaced-append (n ∷ u) v = rw (spaced-append u v, append_assoc (space ∷ decimal n) (spaced u) (spaced v))
+spaced_append [] v = refl
+spaced_append (n ∷ u) v = rw (spaced_append u v, append_assoc (space ∷ decimal n) (spaced u) (spaced v))
 
-pub spaced-one : (n : ℕ) → spaced (n ∷ []) ≡ space ∷ decimal n
+pub spaced_one : (n : ℕ) → spaced (n ∷ []) ≡ space ∷ decimal n
 unfolding spaced
-spaced-one n = append-nil (space ∷ decimal n)
+spaced_one n = append-nil (space ∷ decimal n)
 
 -- a list's first i numbers, and then the next
-pub next-number : (l : List ℕ) {a b c : List ℕ} {p q r : ℕ} (i : ℕ) → i < length l → LineWritten (spaced (take i l)) a p b q →
+pub next_number : (l : List ℕ) {a b c : List ℕ} {p q r : ℕ} (i : ℕ) → i < length l → LineWritten (spaced (take i l)) a p b q →
     LineWritten (space ∷ decimal (get_or l i 0)) b q c r → LineWritten (spaced (take (i + 1) l)) a p c r
-next-number l i h w v =
-    rw (add-one, take-suc l i 0, spaced-append (take i l) (get_or l i 0 ∷ []), spaced-one (get_or l i 0)) (and_then w v)
+next_number l i h w v =
+    rw (add-one, take-suc l i 0, spaced_append (take i l) (get_or l i 0 ∷ []), spaced_one (get_or l i 0)) (and_then w v)

@@ -12,13 +12,13 @@ use Rattle.lines.proofs.WrittenInRoom.{kept}
 
 module _ {text buffer after : List ℕ} {at past : ℕ} (w : LineWritten text buffer at after past) where
   -- WHOLE: the whole text, in its place, and nothing else has changed
-  pub with-room : at + length text ≤ length buffer →
+  pub with_room : at + length text ≤ length buffer →
       (past ≡ at + length text) × (after ≡ take at buffer ++ text ++ drop (at + length text) buffer)
-  with-room h = (omega (arith, w.index), w.holds ∙ sets-eq text buffer at h)
+  with_room h = (omega (arith, w.index), w.holds ∙ sets-eq text buffer at h)
 
   -- WHOLE: an index below the buffer's length is past the whole text
-  pub room-told : past < length buffer → at + length text ≤ length buffer
-  room-told h = omega (arith, w.index)
+  pub room_told : past < length buffer → at + length text ≤ length buffer
+  room_told h = omega (arith, w.index)
 
   -- the index stays within the buffer
   pub within : at ≤ length buffer → past ≤ length after
@@ -28,5 +28,5 @@ module _ {text buffer after : List ℕ} {at past : ℕ} (w : LineWritten text bu
 pub front : {text buffer after : List ℕ} {past : ℕ} → LineWritten text buffer 0 after past → length text ≤ length buffer →
     take past after ≡ text
 front {text} {buffer} w h =
-    let all = with-room w (omega arith) in
+    let all = with_room w (omega arith) in
     rw (all.0, all.1, zero-add (length text)) (take-append_seam text (drop (length text) buffer))

@@ -9,13 +9,13 @@ use mathlib.Core.Path.{◌≡◌, refl, sym, ap, ◌∙◌}
 use mathlib.Core.List.{List, [], ◌∷◌, ◌++◌}
 use lib.ListN.{length, take, get_or, set, length-append, length-set}
 use lib.Seq.{sets, set_out, length-sets, take-suc}
-use Rattle.answers.proofs.Stores.{sets-append}
+use Rattle.answers.proofs.Stores.{sets_append}
 use Rattle.lines.specs.Room.{LineWritten}
 
 -- past the end nothing changes
-sets-out : (u l : List ℕ) (i : ℕ) → length l ≤ i → sets l i u ≡ l
-sets-out [] l i h = refl
-sets-out (x ∷ u) l i h = rw (set_out l i x h) (sets-out u l (suc i) (omega arith))
+sets_out : (u l : List ℕ) (i : ℕ) → length l ≤ i → sets l i u ≡ l
+sets_out [] l i h = refl
+sets_out (x ∷ u) l i h = rw (set_out l i x h) (sets_out u l (suc i) (omega arith))
 
 pub nothing : (buffer : List ℕ) (at : ℕ) → LineWritten [] buffer at buffer at
 nothing buffer at = record { holds = refl; index = omega arith }
@@ -28,12 +28,12 @@ and_then {u} {v} {a} {b} {c} {p} {q} {r} h k =
   where
     go : Dec (length u ≤ length a - p) → sets b q v ≡ sets a p (u ++ v)
     go (yes l) =
-        let e : q ≡ p + length u = omega (arith, h.index) in rw (e, h.holds) (sym (sets-append u v a p))
+        let e : q ≡ p + length u = omega (arith, h.index) in rw (e, h.holds) (sym (sets_append u v a p))
     go (no l) =
         let cut = lt_of_not-le l in
         let same = ap length h.holds ∙ length-sets a p u in
-        sets-out v b q (omega (arith, h.index)) ∙ h.holds ∙
-        sym (sets-append u v a p ∙ sets-out v (sets a p u) (p + length u) (rw (length-sets a p u) (omega arith)))
+        sets_out v b q (omega (arith, h.index)) ∙ h.holds ∙
+        sym (sets_append u v a p ∙ sets_out v (sets a p u) (p + length u) (rw (length-sets a p u) (omega arith)))
 
 -- a list's first i octets, and then the next
 pub one_more : (l : List ℕ) {a b c : List ℕ} {p q r : ℕ} (i : ℕ) → i < length l → LineWritten (take i l) a p b q →

@@ -6,13 +6,13 @@ abbrev pub digit : ℕ → ℕ
 digit d = 48 + d
 
 -- the digits of n: below 10 it is one digit; from 10 on those of n / 10, and then the last one. `turns` only counts down: it is
--- at least n, and n / 10 is smaller than n, so that it never runs out (`decimal-one`, `decimal-more`)
-unfoldable pub digitsIn : ℕ → ℕ → List ℕ
-digitsIn zero n = digit n ∷ []
-digitsIn (suc turns) n = cond (ltb n 10) (digit n ∷ []) (digitsIn turns (n / 10) ++ (digit (n % 10) ∷ []))
+-- at least n, and n / 10 is smaller than n, so that it never runs out (`decimal_one`, `decimal_more`)
+unfoldable pub digits_in : ℕ → ℕ → List ℕ
+digits_in zero n = digit n ∷ []
+digits_in (suc turns) n = cond (ltb n 10) (digit n ∷ []) (digits_in turns (n / 10) ++ (digit (n % 10) ∷ []))
 
 unfoldable pub decimal : ℕ → List ℕ
-decimal n = digitsIn n n
+decimal n = digits_in n n
 
 -- the number that digits spell, behind a number that is spelled already
 unfoldable pub spelled : ℕ → List ℕ → ℕ

@@ -9,18 +9,18 @@ use Rattle.lines.specs.Digits.{decimal}
 abbrev pub space : ℕ
 space = 0x20
 
-abbrev pub lineEnd : ℕ
-lineEnd = 0x0a
+abbrev pub line_end : ℕ
+line_end = 0x0a
 
 -- the words `suite`, `end`, `refused`
-abbrev pub suiteWord : List ℕ
-suiteWord = 115 ∷ 117 ∷ 105 ∷ 116 ∷ 101 ∷ []
+abbrev pub suite_word : List ℕ
+suite_word = 115 ∷ 117 ∷ 105 ∷ 116 ∷ 101 ∷ []
 
 abbrev pub end_word : List ℕ
 end_word = 101 ∷ 110 ∷ 100 ∷ []
 
-abbrev pub refusedWord : List ℕ
-refusedWord = 114 ∷ 101 ∷ 102 ∷ 117 ∷ 115 ∷ 101 ∷ 100 ∷ []
+abbrev pub refused_word : List ℕ
+refused_word = 114 ∷ 101 ∷ 102 ∷ 117 ∷ 115 ∷ 101 ∷ 100 ∷ []
 
 -- numbers that follow an item: "one space stands between items"
 unfoldable pub spaced : List ℕ → List ℕ
@@ -29,28 +29,28 @@ spaced (n ∷ ns) = (space ∷ decimal n) ++ spaced ns
 
 -- "each line ends with octet 0A"
 abbrev pub ended : List ℕ → List ℕ
-ended text = text ++ (lineEnd ∷ [])
+ended text = text ++ (line_end ∷ [])
 
 -- `suite`, N, T, R
-unfoldable pub suiteLine : ℕ → ℕ → ℕ → List ℕ
-suiteLine N T R = ended (suiteWord ++ spaced (N ∷ T ∷ R ∷ []))
+unfoldable pub suite_line : ℕ → ℕ → ℕ → List ℕ
+suite_line N T R = ended (suite_word ++ spaced (N ∷ T ∷ R ∷ []))
 
 -- "target, token count, tokens, rule count, rule numbers"
-unfoldable pub sentenceLine : ℕ → List ℕ → List ℕ → List ℕ
-sentenceLine target tokens rules = ended (decimal target ++ spaced (length tokens ∷ tokens) ++ spaced (length rules ∷ rules))
+unfoldable pub sentence_line : ℕ → List ℕ → List ℕ → List ℕ
+sentence_line target tokens rules = ended (decimal target ++ spaced (length tokens ∷ tokens) ++ spaced (length rules ∷ rules))
 
 -- `end`, the sentence count
-unfoldable pub endLine : ℕ → List ℕ
-endLine count = ended (end_word ++ spaced (count ∷ []))
+unfoldable pub end_line : ℕ → List ℕ
+end_line count = ended (end_word ++ spaced (count ∷ []))
 
 -- "`refused`, number, place"
-unfoldable pub refusedLine : ℕ → ℕ → List ℕ
-refusedLine number place = ended (refusedWord ++ spaced (number ∷ place ∷ []))
+unfoldable pub refused_line : ℕ → ℕ → List ℕ
+refused_line number place = ended (refused_word ++ spaced (number ∷ place ∷ []))
 
 -- every number of the list is a 16-bit word
 abbrev pub Words : List ℕ → Type 0
 Words l = (i : ℕ) → get_or l i 0 < 65536
 
 -- the most octets of any of these lines, where their numbers are in document 01's bounds
-abbrev pub mostLine : ℕ
-mostLine = 24594
+abbrev pub most_line : ℕ
+most_line = 24594

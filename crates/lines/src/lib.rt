@@ -3,7 +3,7 @@
 // are specs/Room.
 ghost use Rattle.std.specs.Prelude.{◌≡◌, ◌∷◌, ◌++◌, [], ◌<◌, length};
 ghost use Rattle.lines.specs.Digits.{digit, decimal};
-ghost use Rattle.lines.specs.Lines.{space, spaced, suiteLine, sentenceLine, endLine, refusedLine};
+ghost use Rattle.lines.specs.Lines.{space, spaced, suite_line, sentence_line, end_line, refused_line};
 ghost use Rattle.lines.specs.Room.{LineWritten};
 
 const SPACE: u8 = 32;
@@ -99,7 +99,7 @@ pub fn suite(
     text: &mut [u8],
     at: usize,
 ) -> usize
-    ensures { LineWritten (suiteLine nonterminals terminals rules) text.old at text.new result }
+    ensures { LineWritten (suite_line nonterminals terminals rules) text.old at text.new result }
 {
     let worded = word(b"suite", text, at);
     let first = number(nonterminals, text, worded);
@@ -110,7 +110,7 @@ pub fn suite(
 
 // A sentence's line: the target, the tokens with their count, the rule numbers with theirs.
 pub fn sentence(target: usize, tokens: &[u16], rules: &[u16], text: &mut [u8], at: usize) -> usize
-    ensures { LineWritten (sentenceLine target tokens.now rules.now) text.old at
+    ensures { LineWritten (sentence_line target tokens.now rules.now) text.old at
         text.new result }
 {
     let first = digits(target, text, at);
@@ -121,7 +121,7 @@ pub fn sentence(target: usize, tokens: &[u16], rules: &[u16], text: &mut [u8], a
 
 // The last line: how many sentences there were.
 pub fn end(count: usize, text: &mut [u8], at: usize) -> usize
-    ensures { LineWritten (endLine count) text.old at text.new result }
+    ensures { LineWritten (end_line count) text.old at text.new result }
 {
     let worded = word(b"end", text, at);
     let first = number(count, text, worded);
@@ -130,7 +130,7 @@ pub fn end(count: usize, text: &mut [u8], at: usize) -> usize
 
 // The one line of a refused file.
 pub fn refused(refusal: u16, place: usize, text: &mut [u8], at: usize) -> usize
-    ensures { LineWritten (refusedLine refusal place) text.old at text.new result }
+    ensures { LineWritten (refused_line refusal place) text.old at text.new result }
 {
     let worded = word(b"refused", text, at);
     let first = number(wide(refusal), text, worded);

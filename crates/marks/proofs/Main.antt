@@ -9,16 +9,16 @@ use Rattle.marks.proofs.MarksSettle as MarksSettle
 use Rattle.marks.proofs.MarksMet as MarksMet
 
 -- FIRST UNUSED
-pub first-unused-settles : (marks : List ℕ) (rules : ℕ) {a b : LowestUnused} →
+pub first_unused_settles : (marks : List ℕ) (rules : ℕ) {a b : LowestUnused} →
     FirstUnused marks rules a → FirstUnused marks rules b → a ≡ b
-first-unused-settles = MarksSettle.first-unused-settles
+first_unused_settles = MarksSettle.first_unused_settles
 
-pub first-unused-met : (marks : List ℕ) (rules : ℕ) → (a : LowestUnused) × FirstUnused marks rules a
-first-unused-met = MarksMet.first-unused-met
+pub first_unused_met : (marks : List ℕ) (rules : ℕ) → (a : LowestUnused) × FirstUnused marks rules a
+first_unused_met = MarksMet.first_unused_met
 
 -- MARK RULES
-pub mark-rules-settles : {ks before after after' : List ℕ} → Marked ks before after → Marked ks before after' → after ≡ after'
-mark-rules-settles = MarksSettle.mark-rules-settles
+pub mark_rules_settles : {ks before after after' : List ℕ} → Marked ks before after → Marked ks before after' → after ≡ after'
+mark_rules_settles = MarksSettle.mark_rules_settles
 
-pub marks-met : (ks before : List ℕ) → (after : List ℕ) × Marked ks before after
-marks-met = MarksMet.marks-met
+pub marks_met : (ks before : List ℕ) → (after : List ℕ) × Marked ks before after
+marks_met = MarksMet.marks_met

@@ -9,22 +9,22 @@ use mathlib.Core.List.Memᴰ
 use mathlib.Core.List.{List, [], ◌∷◌, Memᴰ}
 use lib.ListN.{length, get_or}
 use lib.Seq.{ext_get_or}
-use Rattle.marks.specs.Marks.{FirstUnused, at, none-unused, Marked}
+use Rattle.marks.specs.Marks.{FirstUnused, at, none_unused, Marked}
 use Rattle.marks.specs.declared.LowestUnused.{LowestUnused}
 use Rattle.marks.specs.declared.LowestUnused.TheVariants.{At}
 
 -- THE LOWEST UNUSED RULE: neither of two is below the other
 module _ (marks : List ℕ) (rules : ℕ) where
-  pub first-unused-settles : {a b : LowestUnused} → FirstUnused marks rules a → FirstUnused marks rules b → a ≡ b
-  first-unused-settles (at {r} l z below) (at {r = s} m y above) = same (dec_lt r s) (dec_lt s r)
+  pub first_unused_settles : {a b : LowestUnused} → FirstUnused marks rules a → FirstUnused marks rules b → a ≡ b
+  first_unused_settles (at {r} l z below) (at {r = s} m y above) = same (dec_lt r s) (dec_lt s r)
     where
       same : Dec (r < s) → Dec (s < r) → At r ≡ At s
       same (yes lt) e = absurd (above r lt z)
       same (no ge) (yes lt) = absurd (below s lt y)
       same (no ge) (no le) = let e : r ≡ s = omega arith in rw e refl
-  first-unused-settles (at {r} l z below) (none-unused all) = absurd (all r l z)
-  first-unused-settles (none-unused all) (at {r} l z below) = absurd (all r l z)
-  first-unused-settles (none-unused all) (none-unused every) = refl
+  first_unused_settles (at {r} l z below) (none_unused all) = absurd (all r l z)
+  first_unused_settles (none_unused all) (at {r} l z below) = absurd (all r l z)
+  first_unused_settles (none_unused all) (none_unused every) = refl
 
 -- THE MARKS. Whether a mark is to be set is decided.
 member? : (i : ℕ) (ks : List ℕ) → Dec (Memᴰ i ks)
@@ -57,15 +57,15 @@ module _ (ks before : List ℕ) (i : ℕ) where
   abbrev Either : List ℕ → Type 0
   Either after = (ToSet × (get_or after i 0 ≡ 1)) ⊎ ((¬ ToSet) × (get_or after i 0 ≡ get_or before i 0))
 
-  pub mark-cases : {after : List ℕ} → Marked ks before after → i < length before → Either after
-  mark-cases {after} h l = go set?
+  pub mark_cases : {after : List ℕ} → Marked ks before after → i < length before → Either after
+  mark_cases {after} h l = go set?
     where
       go : Dec ToSet → Either after
       go (yes z) = inl (z, h.sets i l z.0 z.1)
       go (no n) = inr (n, h.keeps i l n)
 
-pub mark-rules-settles : {ks before after after' : List ℕ} → Marked ks before after → Marked ks before after' → after ≡ after'
-mark-rules-settles {ks} {before} {after} {after'} h k = ext_get_or 0 after after' (h.long ∙ sym k.long) same
+pub mark_rules_settles : {ks before after after' : List ℕ} → Marked ks before after → Marked ks before after' → after ≡ after'
+mark_rules_settles {ks} {before} {after} {after'} h k = ext_get_or 0 after after' (h.long ∙ sym k.long) same
   where
     one : (i : ℕ) → i < length before →
         (ToSet ks before i × (get_or after i 0 ≡ 1)) ⊎ ((¬ ToSet ks before i) × (get_or after i 0 ≡ get_or before i 0)) →
@@ -74,4 +74,4 @@ mark-rules-settles {ks} {before} {after} {after'} h k = ext_get_or 0 after after
     one i l (inr z) = z.1 ∙ sym (k.keeps i l z.0)
 
     same : (i : ℕ) → i < length after → get_or after i 0 ≡ get_or after' i 0
-    same i l = let below : i < length before = omega (arith, h.long) in one i below (mark-cases ks before i h below)
+    same i l = let below : i < length before = omega (arith, h.long) in one i below (mark_cases ks before i h below)

@@ -12,7 +12,7 @@ UsedBelow marks n = (k : ℕ) → k < n → ¬ (get_or marks k 0 ≡ 0)
 -- the lowest rule of so many that is unused, or that none is
 pub data FirstUnused (marks : List ℕ) (rules : ℕ) : LowestUnused → Type 0 where
   at : {r : ℕ} → r < rules → get_or marks r 0 ≡ 0 → UsedBelow marks r → FirstUnused marks rules (At r)
-  none-unused : UsedBelow marks rules → FirstUnused marks rules None
+  none_unused : UsedBelow marks rules → FirstUnused marks rules None
 
 -- "sets to 1 the zero marks of exactly the rules in the derivation"
 pub record Marked (ks before after : List ℕ) : Type 0 where

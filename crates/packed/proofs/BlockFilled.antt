@@ -26,8 +26,8 @@ each_more Asked block j x within so_far stored k low = go (dec_lt k j)
         rw (same, get_or-set_same block j x 0 within) stored
 
 -- the front of a buffer that holds the first f of out, and then its own
-pub front-holds : (i f : ℕ) (out buf : List ℕ) → i ≤ f → f ≤ length out → take i (take f out ++ drop f buf) ≡ take i out
-front-holds i f out buf = go i f out (drop f buf)
+pub front_holds : (i f : ℕ) (out buf : List ℕ) → i ≤ f → f ≤ length out → take i (take f out ++ drop f buf) ≡ take i out
+front_holds i f out buf = go i f out (drop f buf)
   where
     go : (i f : ℕ) (out behind : List ℕ) → i ≤ f → f ≤ length out → take i (take f out ++ behind) ≡ take i out
     go zero f out behind h k = refl
@@ -37,10 +37,10 @@ front-holds i f out buf = go i f out (drop f buf)
         ap (λ (l : List ℕ). x ∷ l) (go i f out behind (le_of_suc-le-suc h) (le_of_suc-le-suc k))
 
 -- all of out written over it is all of out written over the buffer
-pub over-again : (f : ℕ) (out buf : List ℕ) → f ≤ length out → f ≤ length buf → over out (take f out ++ drop f buf) ≡ over out buf
+pub over_again : (f : ℕ) (out buf : List ℕ) → f ≤ length out → f ≤ length buf → over out (take f out ++ drop f buf) ≡ over out buf
 unfolding over
-over-again zero out buf h k = refl
-over-again (suc f) [] buf h k = absurd (not-suc-le-zero h)
-over-again (suc f) (x ∷ out) [] h k = absurd (not-suc-le-zero k)
-over-again (suc f) (x ∷ out) (y ∷ buf) h k =
-    ap (λ (l : List ℕ). x ∷ l) (over-again f out buf (le_of_suc-le-suc h) (le_of_suc-le-suc k))
+over_again zero out buf h k = refl
+over_again (suc f) [] buf h k = absurd (not-suc-le-zero h)
+over_again (suc f) (x ∷ out) [] h k = absurd (not-suc-le-zero k)
+over_again (suc f) (x ∷ out) (y ∷ buf) h k =
+    ap (λ (l : List ℕ). x ∷ l) (over_again f out buf (le_of_suc-le-suc h) (le_of_suc-le-suc k))

@@ -9,23 +9,23 @@ use Rattle.packed.specs.File.{words_in}
 use Rattle.answers.specs.Buffers.{over}
 use Rattle.packed.specs.Answers.{answer, too_short}
 use Rattle.packed.specs.Promise.{Unpacked}
-use Rattle.packed.specs.Promise.Unpacked.{wrong-version, wrong-length, no-room-for-words, all_words}
+use Rattle.packed.specs.Promise.Unpacked.{wrong_version, wrong_length, no-room-for-words, all_words}
 use Rattle.packed.specs.Judged.{Judged}
-use Rattle.packed.specs.Judged.Judged.{judged-version, judged-length, judged-good}
+use Rattle.packed.specs.Judged.Judged.{judged_version, judged_length, judged_good}
 use Rattle.packed.proofs.GoodFile.{good}
 
-pub refusal-stands : {file : List ℕ} {number place : ℕ} (words : List ℕ) → Judged file (Refused number place) →
+pub refusal_stands : {file : List ℕ} {number place : ℕ} (words : List ℕ) → Judged file (Refused number place) →
     Unpacked file words (Refused number place) words
-refusal-stands words (judged-version h) = wrong-version h
-refusal-stands words (judged-length v h) = wrong-length v h
+refusal_stands words (judged_version h) = wrong_version h
+refusal_stands words (judged_length v h) = wrong_length v h
 
 pub good_length : {file : List ℕ} {n : ℕ} → Judged file (Done n) → length file ≡ 3 + 2 * n
-good_length {file} (judged-good v l) = (good file v l).all
+good_length {file} (judged_good v l) = (good file v l).all
 
-pub good-no-room : {file : List ℕ} {n : ℕ} (words : List ℕ) → Judged file (Done n) → length words < n →
+pub good_no_room : {file : List ℕ} {n : ℕ} (words : List ℕ) → Judged file (Done n) → length words < n →
     Unpacked file words (answer (too_short n)) words
-good-no-room words (judged-good v l) h = no-room-for-words v l h
+good_no_room words (judged_good v l) h = no-room-for-words v l h
 
-pub good-done : {file : List ℕ} {n : ℕ} (words after : List ℕ) → Judged file (Done n) → n ≤ length words →
+pub good_done : {file : List ℕ} {n : ℕ} (words after : List ℕ) → Judged file (Done n) → n ≤ length words →
     after ≡ over (words_in file) words → Unpacked file words (Done n) after
-good-done words after (judged-good v l) h e = rw e (all_words v l h)
+good_done words after (judged_good v l) h e = rw e (all_words v l h)

@@ -9,18 +9,18 @@ pub data Case : Type 0 where
   -- "Done carries the length written."
   done : (written : ℕ) → Case
   -- "file empty or first octet not 1"
-  not-version-one : Case
+  not_version_one : Case
   -- "unpack: under 3 octets, or the length is odd, above 17,414, or not the octets that follow"
-  bad-length : Case
+  bad_length : Case
   -- "pack: over 8,707 words"
-  too-many-words : Case
+  too_many_words : Case
   -- "words, file .. buffer too short"
   too_short : (needed : ℕ) → Case
 
 -- "Every row returns its number and the place shown"
 abbrev pub answer : Case → FileAnswer
 answer (done written) = Done written
-answer not-version-one = Refused 1 0
-answer bad-length = Refused 2 1
-answer too-many-words = Refused 2 8707
+answer not_version_one = Refused 1 0
+answer bad_length = Refused 2 1
+answer too_many_words = Refused 2 8707
 answer (too_short needed) = Refused 3 needed

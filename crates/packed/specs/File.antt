@@ -4,14 +4,14 @@
 use Rattle.std.specs.Prelude.{ℕ, ◌+◌, ◌*◌, ◌/◌, ◌%◌, ◌≤◌, ◌<◌, ◌≡◌, List, [], ◌∷◌, length, get_or, drop}
 
 -- "each word as two octets, high octet first"
-unfoldable pub octetsOf : List ℕ → List ℕ
-octetsOf [] = []
-octetsOf (w ∷ words) = w / 256 ∷ w % 256 ∷ octetsOf words
+unfoldable pub octets_of : List ℕ → List ℕ
+octets_of [] = []
+octets_of (w ∷ words) = w / 256 ∷ w % 256 ∷ octets_of words
 
 -- "The file: version byte 1, then the number of following octets as two octets, then each word as two octets, high octet first.
 -- Zero words are a valid file"
-unfoldable pub fileOf : List ℕ → List ℕ
-fileOf words = 1 ∷ octetsOf (length (octetsOf words) ∷ words)
+unfoldable pub file_of : List ℕ → List ℕ
+file_of words = 1 ∷ octets_of (length (octets_of words) ∷ words)
 
 -- Back again. The word that two octets spell:
 abbrev pub word_of : ℕ → ℕ → ℕ

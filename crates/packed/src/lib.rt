@@ -3,7 +3,7 @@
 // grammar shape, and neither has a `requires`: what the input can break is answered by a refusal, which changes no
 // buffer.
 ghost use Rattle.std.specs.Prelude.{◌≡◌, ◌++◌, ◌+◌, ◌*◌, ◌/◌, ◌%◌, ◌≤◌, ◌<◌, length, take, drop, get_or, set};
-ghost use Rattle.packed.specs.File.{word_of, words_in, fileOf};
+ghost use Rattle.packed.specs.File.{word_of, words_in, file_of};
 ghost use Rattle.answers.specs.Buffers.{over};
 ghost use Rattle.packed.specs.Promise.{Unpacked, Packed};
 ghost use Rattle.packed.specs.Judged.{Judged};
@@ -196,10 +196,10 @@ fn put_low_first(file: &mut [u8], o: usize, w: u16)
 // Writes the two octets of each of the first count words, from the header on. Up to there file holds the header already.
 fn write_front(words: &[u16], file: &mut [u8], count: usize)
     requires words_in_bounds { 3 + 2 * length words.now ≤ length file.old }
-    requires file_value { take 3 file.old ≡ take 3 (fileOf words.now) }
+    requires file_value { take 3 file.old ≡ take 3 (file_of words.now) }
     requires count_in_bounds { count ≤ length words.now }
     ensures { file.new ≡
-        take (3 + 2 * count) (fileOf words.now) ++ drop (3 + 2 * count) file.old }
+        take (3 + 2 * count) (file_of words.now) ++ drop (3 + 2 * count) file.old }
 {
     let mut i: usize = 0;
     while i < count {
@@ -225,8 +225,8 @@ fn exchange_block(words: &[u16], i: usize, block: &mut [u16])
 fn write_last(words: &[u16], file: &mut [u8], last: usize)
     requires last_value { last + 8 ≡ length words.now }
     requires words_in_bounds { 3 + 2 * length words.now ≤ length file.old }
-    requires file_value { take (3 + 2 * last) file.old ≡ take (3 + 2 * last) (fileOf words.now) }
-    ensures { file.new ≡ over (fileOf words.now) file.old }
+    requires file_value { take (3 + 2 * last) file.old ≡ take (3 + 2 * last) (file_of words.now) }
+    ensures { file.new ≡ over (file_of words.now) file.old }
 {
     let mut block = [0u16; BLOCK];
     exchange_block(words, last, &mut block);
@@ -240,8 +240,8 @@ fn write_last(words: &[u16], file: &mut [u8], last: usize)
 // Writes the two octets of each word, from the header on, as `read_words` reads them. Up to there file holds the header already.
 fn write_words(words: &[u16], file: &mut [u8])
     requires words_in_bounds { 3 + 2 * length words.now ≤ length file.old }
-    requires file_value { take 3 file.old ≡ take 3 (fileOf words.now) }
-    ensures { file.new ≡ over (fileOf words.now) file.old }
+    requires file_value { take 3 file.old ≡ take 3 (file_of words.now) }
+    ensures { file.new ≡ over (file_of words.now) file.old }
 {
     let count = words.len();
     if count < BLOCK {

@@ -6,30 +6,30 @@ use Prim.Native.Nat.{ℕ, ◌+◌, ◌-◌, ◌≤◌, ◌<◌}
 use native.Mathlib.Omega.{arith}
 use lib.ListN.{length, get_or, drop, length-append}
 use Rattle.grammar.specs.Words.{Grammar, RuleAt, place_of}
-use Rattle.layout.specs.Walk.{countAt}
+use Rattle.layout.specs.Walk.{count_at}
 use Rattle.layout.proofs.RulePlaces as in_words_lem
-use Rattle.grammar.proofs.RuleNumbers.{rule-number}
+use Rattle.grammar.proofs.RuleNumbers.{rule_number}
 use Rattle.grammar.specs.Replaying.{derived, stopped, replayed}
 use Rattle.layout.specs.View.{View}
-use Rattle.layout.proofs.RulesInView.{viewed-rule, viewed-left}
-use Rattle.replay.specs.Forms.{side, form_of, waitingAbove, behind, Passed, Openable, Opened}
-use Rattle.replay.specs.ReplaySteps.{rest, allFront, toDo, Ground, WithinBounds, Onward}
+use Rattle.layout.proofs.RulesInView.{viewed_rule, viewed_left}
+use Rattle.replay.specs.Forms.{side, form_of, waiting_above, behind, Passed, Openable, Opened}
+use Rattle.replay.specs.ReplaySteps.{rest, all_front, to_do, Ground, WithinBounds, Onward}
 use Rattle.replay.specs.declared.forms.Open.{Open}
-use Rattle.replay.proofs.FormSteps.{side-is, side-length, form-first, form-above, form-empty, form-passed}
+use Rattle.replay.proofs.FormSteps.{side_is, side-length, form_first, form_above, form_empty, form_passed}
 use Rattle.replay.proofs.ReplayMoves as moves
 
 -- the right side of a rule stands after its count
 module _ {ws places : List ℕ} {n rules : ℕ} {g : Grammar} (view : View ws places n rules g) {k A : ℕ} {w : List ℕ}
     (r : RuleAt g k A w) where
-  pub counted : countAt ws (get_or places k 0) ≡ length w
+  pub counted : count_at ws (get_or places k 0) ≡ length w
   counted =
-      ap (λ (p : ℕ). countAt ws p) (view.begin k (rule-number r)) ∙ in_words_lem.count-stands ws g view.is k A w r.stands
+      ap (λ (p : ℕ). count_at ws p) (view.begin k (rule_number r)) ∙ in_words_lem.count_stands ws g view.is k A w r.stands
 
-  right_side : side ws (get_or places k 0 + 2) (countAt ws (get_or places k 0)) ≡ w
+  right_side : side ws (get_or places k 0 + 2) (count_at ws (get_or places k 0)) ≡ w
   right_side =
       ap (λ (m : ℕ). side ws (get_or places k 0 + 2) m) counted ∙
-      ap (λ (p : ℕ). side ws (p + 2) (length w)) (view.begin k (rule-number r)) ∙
-      side-is ws w (place_of g k + 2) (in_words_lem.symbol-stands ws g view.is k A w r.stands)
+      ap (λ (p : ℕ). side ws (p + 2) (length w)) (view.begin k (rule_number r)) ∙
+      side_is ws w (place_of g k + 2) (in_words_lem.symbol_stands ws g view.is k A w r.stands)
 
 module _ {ws list stack : List ℕ} {o : Open} (kept : WithinBounds ws list stack o) where
   abbrev first : ℕ
@@ -43,27 +43,27 @@ module _ {ws list stack : List ℕ} {o : Open} (kept : WithinBounds ws list stac
   -- nothing is left
   pub nothing_stops : (g : Grammar) → o.left ≡ 0 → o.depth ≡ 0 → o.next < length list →
       rest g ws list stack o ≡ stopped o.next
-  nothing_stops g e d h = from g (form-empty ws stack o e d) ∙ moves.stops-empty g list o.next h
+  nothing_stops g e d h = from g (form_empty ws stack o e d) ∙ moves.stops_empty g list o.next h
 
   pub nothing_ends : (g : Grammar) → o.left ≡ 0 → o.depth ≡ 0 → length list ≤ o.next → rest g ws list stack o ≡ derived []
-  nothing_ends g e d h = from g (form-empty ws stack o e d) ∙ moves.completes g list o.next h
+  nothing_ends g e d h = from g (form_empty ws stack o e d) ∙ moves.completes g list o.next h
 
   -- a right side is at its end
   pub back : (g : Grammar) → o.left ≡ 0 → 0 < o.depth →
-      rest g ws list stack o ≡ rest g ws list stack (waitingAbove stack o)
-  back g e d = from g (form-above ws stack o e d)
+      rest g ws list stack o ≡ rest g ws list stack (waiting_above stack o)
+  back g e d = from g (form_above ws stack o e d)
 
-  pub back-bounded : o.left ≡ 0 → 0 < o.depth → Onward ws list stack o stack (waitingAbove stack o)
-  back-bounded e d =
-      let same = ap length (form-above ws stack o e d) in
+  pub back_bounded : o.left ≡ 0 → 0 < o.depth → Onward ws list stack o stack (waiting_above stack o)
+  back_bounded e d =
+      let same = ap length (form_above ws stack o e d) in
       record {
         kept = record {
           room = kept.room;
-          inside = kept.all-inside (o.depth - 1) (omega arith);
-          all-inside = λ i l. kept.all-inside i (omega arith);
+          inside = kept.all_inside (o.depth - 1) (omega arith);
+          all_inside = λ i l. kept.all_inside i (omega arith);
           waits = omega (arith, kept.waits);
           used = kept.used;
-          few-tokens = omega (arith, kept.few-tokens);
+          few_tokens = omega (arith, kept.few_tokens);
         };
         less = omega arith;
       }
@@ -76,35 +76,35 @@ module _ {ws list stack : List ℕ} {o : Open} (kept : WithinBounds ws list stac
 
       pub none_left : length list ≤ o.next → rest g ws list stack o ≡ stopped o.next
       none_left h =
-          from g (form-first ws stack o some) ∙ moves.stops-remaining g list o.next first _ h nonterminal
+          from g (form_first ws stack o some) ∙ moves.stops_remaining g list o.next first _ h nonterminal
 
       -- the next number, k
       module _ {k : ℕ} (is : k ≡ get_or list o.next 0) (more : o.next < length list) where
-        pub no-rule : rules ≤ k → rest g ws list stack o ≡ stopped o.next
-        no-rule l =
-            from g (form-first ws stack o some) ∙
-            moves.stops-past g list o.next first _ more nonterminal (omega (arith, view.all-rules))
+        pub no_rule : rules ≤ k → rest g ws list stack o ≡ stopped o.next
+        no_rule l =
+            from g (form_first ws stack o some) ∙
+            moves.stops_past g list o.next first _ more nonterminal (omega (arith, view.all_rules))
 
         numbered : {A : ℕ} {w : List ℕ} → RuleAt g k A w → RuleAt g (get_or list o.next 0) A w
         numbered {A} {w} r = subst (λ (j : ℕ). RuleAt g j A w) is r
 
-        pub other-rule : k < rules → ¬ (get_or ws (get_or places k 0) 0 ≡ first) → rest g ws list stack o ≡ stopped o.next
-        other-rule l ne =
-            let (A, w, r) = viewed-rule view k l in
-            from g (form-first ws stack o some) ∙
-            moves.stops-other g list o.next first A _ w more nonterminal (numbered r) (λ e. ne (viewed-left view r ∙ e))
+        pub other_rule : k < rules → ¬ (get_or ws (get_or places k 0) 0 ≡ first) → rest g ws list stack o ≡ stopped o.next
+        other_rule l ne =
+            let (A, w, r) = viewed_rule view k l in
+            from g (form_first ws stack o some) ∙
+            moves.stops_other g list o.next first A _ w more nonterminal (numbered r) (λ e. ne (viewed_left view r ∙ e))
 
         pub opens : {stack' : List ℕ} {o' : Open} → k < rules → get_or ws (get_or places k 0) 0 ≡ first →
             Opened ws (get_or places k 0) stack o stack' o' →
             (o'.tokens ≡ o.tokens) × (rest g ws list stack o ≡ rest g ws list stack' o')
         opens {stack'} {o'} l e opened =
-            let (A, w, r) = viewed-rule view k l in
-            let same : A ≡ first = sym (viewed-left view r) ∙ e in
+            let (A, w, r) = viewed_rule view k l in
+            let same : A ≡ first = sym (viewed_left view r) ∙ e in
             let r' = subst (λ (B : ℕ). RuleAt g (get_or list o.next 0) B w) same (numbered r) in
             let form : w ++ form_of ws stack (behind o) ≡ form_of ws stack' o' =
             ap (λ (l : List ℕ). l ++ form_of ws stack (behind o)) (sym (right_side view r)) ∙ sym opened.form in (
-              opened.same-tokens,
-              from g (form-first ws stack o some) ∙ moves.opens g list o.next first _ w more r' ∙
+              opened.same_tokens,
+              from g (form_first ws stack o some) ∙ moves.opens g list o.next first _ w more r' ∙
                   ap (replayed g (drop (o.next + 1) list) (o.next + 1)) form ∙
                   ap (λ (m : ℕ). replayed g (drop m list) m (form_of ws stack' o')) (sym opened.one_more),
             )
@@ -114,75 +114,75 @@ module _ {ws list stack : List ℕ} {o : Open} (kept : WithinBounds ws list stac
     openable ground k l h = record {
       some = some;
       few_words = ground.few_words;
-      few-rules = omega (arith, ground.few-numbers);
+      few_rules = omega (arith, ground.few_numbers);
       room = omega (arith, kept.waits, kept.room);
       inside = kept.inside;
-      all-inside = kept.all-inside;
+      all_inside = kept.all_inside;
       whole = ground.whole k l;
     }
 
-    pub opens-bounded : {places : List ℕ} {rules : ℕ} → Ground ws places list rules → (k : ℕ) → k < rules →
+    pub opens_bounded : {places : List ℕ} {rules : ℕ} → Ground ws places list rules → (k : ℕ) → k < rules →
         o.next < length list → {stack' : List ℕ} {o' : Open} → Opened ws (get_or places k 0) stack o stack' o' →
         length stack' ≡ length stack → Onward ws list stack o stack' o'
-    opens-bounded {places} ground k l h opened same_length =
+    opens_bounded {places} ground k l h opened same_length =
         let at = get_or places k 0 in
-        let size = ap length (form-first ws stack o some) in
+        let size = ap length (form_first ws stack o some) in
         let inside = ground.whole k l in
         let few_words = ground.few_words in
-        let few-tokens = kept.few-tokens in
+        let few_tokens = kept.few_tokens in
         let deeper = opened.deeper in
         let one_more = opened.one_more in
         let whole = ap length opened.form in
-        let parts = length-append (side ws (at + 2) (countAt ws at)) (form_of ws stack (behind o)) in
-        let sized = side-length ws (at + 2) (countAt ws at) in
+        let parts = length-append (side ws (at + 2) (count_at ws at)) (form_of ws stack (behind o)) in
+        let sized = side-length ws (at + 2) (count_at ws at) in
         record {
           kept = record {
             room = omega (arith, kept.room);
             inside = opened.inside;
-            all-inside = opened.all-inside;
+            all_inside = opened.all_inside;
             waits = omega (arith, kept.waits);
             used = omega arith;
-            few-tokens = omega (arith, opened.same-tokens);
+            few_tokens = omega (arith, opened.same_tokens);
           };
           less = omega arith;
         }
 
 -- a step back
 pub went_back : {ws list stack : List ℕ} {o o' : Open} → WithinBounds ws list stack o → o.left ≡ 0 → 0 < o.depth →
-    o' ≡ waitingAbove stack o → Onward ws list stack o stack o'
-went_back kept h d e = rw e (back-bounded kept h d)
+    o' ≡ waiting_above stack o → Onward ws list stack o stack o'
+went_back kept h d e = rw e (back_bounded kept h d)
 
 pub goes_back : {ws list stack : List ℕ} {o o' : Open} → WithinBounds ws list stack o → o.left ≡ 0 → 0 < o.depth →
-    o' ≡ waitingAbove stack o → (g : Grammar) →
+    o' ≡ waiting_above stack o → (g : Grammar) →
     (o'.tokens ≡ o.tokens) × (rest g ws list stack o ≡ rest g ws list stack o')
 goes_back kept h d e g = rw e (refl, back kept g h d)
 
 -- tokens passed
 module _ {ws list stack : List ℕ} {n : ℕ} {o o' : Open} {sentence sentence' : List ℕ} (kept : WithinBounds ws list stack o)
     (passed : Passed ws n o sentence o' sentence') where
-  pub passes : (g : Grammar) → g.N ≤ n → rest g ws list stack o ≡ allFront passed.ts (rest g ws list stack o')
+  pub passes : (g : Grammar) → g.N ≤ n → rest g ws list stack o ≡ all_front passed.ts (rest g ws list stack o')
   passes g h =
-      from kept g (form-passed ws stack o passed) ∙
-      moves.replayed-tokens g passed.ts (drop o.next list) o.next (form_of ws stack o')
-      (λ i l. omega (arith, passed.all-tokens i l)) ∙
-      ap (λ (m : ℕ). allFront passed.ts (replayed g (drop m list) m (form_of ws stack o'))) (sym passed.same_next)
+      from kept g (form_passed ws stack o passed) ∙
+      moves.replayed_tokens g passed.ts (drop o.next list) o.next (form_of ws stack o')
+      (λ i l. omega (arith, passed.all_tokens i l)) ∙
+      ap (λ (m : ℕ). all_front passed.ts (replayed g (drop m list) m (form_of ws stack o'))) (sym passed.same_next)
 
-  passed-size : length (form_of ws stack o) ≡ length passed.ts + length (form_of ws stack o')
-  passed-size = ap length (form-passed ws stack o passed) ∙ length-append passed.ts (form_of ws stack o')
+  passed_size : length (form_of ws stack o) ≡ length passed.ts + length (form_of ws stack o')
+  passed_size = ap length (form_passed ws stack o passed) ∙ length-append passed.ts (form_of ws stack o')
 
   pub passes_kept : WithinBounds ws list stack o'
   passes_kept =
-      let size = passed-size in
-      let depth = passed.same-depth in
+      let size = passed_size in
+      let depth = passed.same_depth in
       let next = passed.same_next in
       record {
         room = kept.room;
         inside = omega (arith, kept.inside, passed.same_end);
-        all-inside = λ i l. kept.all-inside i (omega arith);
+        all_inside = λ i l. kept.all_inside i (omega arith);
         waits = omega (arith, kept.waits);
         used = omega (arith, kept.used);
-        few-tokens = omega (arith, kept.few-tokens, passed.more-tokens);
+        few_tokens = omega (arith, kept.few_tokens, passed.more_tokens);
       }
 
-  pub passes-no-more : toDo ws list stack o' ≤ toDo ws list stack o
-  passes-no-more = omega (arith, passed-size, passed.same-depth, passed.same_next)
+  pub passes_no_more : to_do ws list stack o' ≤ to_do ws list stack o
+  passes_no_more = omega (arith, passed_size, passed.same_depth, passed.same_next)

@@ -8,18 +8,18 @@ pub data Case : Type 0 where
   -- "Done carries the length written."
   done : (written : ℕ) → Case
   -- "words break the grammar layout"
-  broken-layout : (place : ℕ) → Case
+  broken_layout : (place : ℕ) → Case
   -- "replayed list over 4,096 numbers"
-  long-list : Case
+  long_list : Case
   -- "list is no complete leftmost derivation"
-  no-derivation : (place : ℕ) → Case
+  no_derivation : (place : ℕ) → Case
   -- "sentence buffer too short"
   too_short : (needed : ℕ) → Case
 
 -- "Every row returns its number and the place shown"
 abbrev pub answer : Case → ReplayAnswer
 answer (done written) = Done written
-answer (broken-layout p) = Refused 4 p
-answer long-list = Refused 12 4096
-answer (no-derivation p) = Refused 11 p
+answer (broken_layout p) = Refused 4 p
+answer long_list = Refused 12 4096
+answer (no_derivation p) = Refused 11 p
 answer (too_short needed) = Refused 3 needed

@@ -4,10 +4,10 @@
 use Rattle.std.specs.Prelude.{ℕ, ◌+◌, ◌*◌, ◌-◌, ◌≤◌, ◌<◌, ◌≡◌, List, [], ◌∷◌, length, get_or, drop}
 use Rattle.std.proofs.lemmas.List.Edits.{sets}
 use Rattle.grammar.specs.Words.{Grammar}
-use Rattle.layout.specs.Walk.{countAt}
+use Rattle.layout.specs.Walk.{count_at}
 use Rattle.grammar.specs.Replaying.{Replayed, derived, stopped, replayed, replay}
 use Rattle.replay.specs.Forms.{at_of, left_of, form_of}
-use Rattle.replay.specs.Replay.{mostNumbers}
+use Rattle.replay.specs.Replay.{most_numbers}
 use Rattle.replay.specs.declared.forms.Open.{Open}
 use Rattle.replay.specs.declared.derivation.Move.{Move}
 use Rattle.replay.specs.declared.derivation.Move.TheVariants.{On, End, Stop}
@@ -24,33 +24,33 @@ front s (derived t) = derived (s ∷ t)
 front s (stopped p) = stopped p
 
 -- tokens in front of what a replay comes to
-abbrev pub allFront : List ℕ → Replayed → Replayed
-allFront [] z = z
-allFront (s ∷ t) z = front s (allFront t z)
+abbrev pub all_front : List ℕ → Replayed → Replayed
+all_front [] z = z
+all_front (s ∷ t) z = front s (all_front t z)
 
 -- the bounds of the words, the places and the list
 pub record Ground (ws places list : List ℕ) (rules : ℕ) : Type 0 where
   pub few_words : length ws ≤ 65535
-  pub few-rules : rules ≤ 256
-  pub few-numbers : length list ≤ mostNumbers
-  pub whole : (k : ℕ) → k < rules → get_or places k 0 + 2 + countAt ws (get_or places k 0) ≤ length ws
+  pub few_rules : rules ≤ 256
+  pub few_numbers : length list ≤ most_numbers
+  pub whole : (k : ℕ) → k < rules → get_or places k 0 + 2 + count_at ws (get_or places k 0) ≤ length ws
 
 -- the bounds of what is open
 pub record WithinBounds (ws list stack : List ℕ) (o : Open) : Type 0 where
   pub room : 2 * length list ≤ length stack
   pub inside : o.at + o.left ≤ length ws
-  pub all-inside : (i : ℕ) → i < o.depth → at_of stack i + left_of stack i ≤ length ws
+  pub all_inside : (i : ℕ) → i < o.depth → at_of stack i + left_of stack i ≤ length ws
   pub waits : o.depth ≤ o.next
   pub used : o.next ≤ length list
-  pub few-tokens : o.tokens + length (form_of ws stack o) ≤ 1 + 65535 * o.next
+  pub few_tokens : o.tokens + length (form_of ws stack o) ≤ 1 + 65535 * o.next
 
 -- how much is still to be done, at most
-abbrev pub toDo : List ℕ → List ℕ → List ℕ → Open → ℕ
-toDo ws list stack o = 65537 * (length list - o.next) + length (form_of ws stack o) + o.depth
+abbrev pub to_do : List ℕ → List ℕ → List ℕ → Open → ℕ
+to_do ws list stack o = 65537 * (length list - o.next) + length (form_of ws stack o) + o.depth
 
 pub record Onward (ws list stack : List ℕ) (o : Open) (stack' : List ℕ) (o' : Open) : Type 0 where
   pub kept : WithinBounds ws list stack' o'
-  pub less : toDo ws list stack' o' < toDo ws list stack o
+  pub less : to_do ws list stack' o' < to_do ws list stack o
 
 -- a move keeps the bounds
 abbrev pub Bounded : List ℕ → List ℕ → List ℕ → Open → Move → List ℕ → Type 0

@@ -3,7 +3,7 @@
 // opened is for `derivation` to say.
 ghost use Rattle.std.specs.Prelude.{◌≡◌, ◌+◌, ◌*◌, ◌-◌, ◌≤◌, ◌<◌, length};
 ghost use Rattle.std.proofs.lemmas.List.Edits.{sets};
-ghost use Rattle.replay.specs.Forms.{side, waitingAbove, TokensEnd, Passing, Passed, Openable, Opened};
+ghost use Rattle.replay.specs.Forms.{side, waiting_above, TokensEnd, Passing, Passed, Openable, Opened};
 
 use cells::{narrow, put, wide};
 
@@ -114,7 +114,7 @@ pub fn pass_tokens(words: &[u16], n: usize, form: Open, sentence: &mut [u16]) ->
 // The innermost right side that waits.
 pub fn above(form: Open, stack: &[u16]) -> Open
     requires { (0 < form.depth) × (2 * form.depth ≤ length stack.now) }
-    ensures { result ≡ waitingAbove stack.now form }
+    ensures { result ≡ waiting_above stack.now form }
 {
     let depth = form.depth - 1;
     Open {

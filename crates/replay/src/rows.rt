@@ -4,7 +4,7 @@ ghost use Rattle.std.specs.Prelude.{◌≡◌, ◌*◌, ◌≤◌, length, take}
 ghost use Rattle.answers.specs.Buffers.{over};
 ghost use Rattle.grammar.specs.Words.{Grammar};
 ghost use Rattle.layout.specs.View.{View};
-ghost use Rattle.replay.specs.Replay.{Replay, mostNumbers};
+ghost use Rattle.replay.specs.Replay.{Replay, most_numbers};
 
 use crate::ReplayAnswer;
 use crate::derivation::{Outcome, run};
@@ -96,7 +96,7 @@ fn of_many(
     list: &[u16],
     sentence: &mut [u16],
 ) -> ReplayAnswer
-    requires { ((g : Grammar) × View words.now places.now n rules g) × (length list.now ≤ mostNumbers) }
+    requires { ((g : Grammar) × View words.now places.now n rules g) × (length list.now ≤ most_numbers) }
     ensures { Replay words.now list.now sentence.old result sentence.new }
 {
     let mut stack = [0u16; 2 * MOST_NUMBERS];
@@ -118,7 +118,7 @@ fn of_list(
     aside: &mut [u16],
     sentence: &mut [u16],
 ) -> ReplayAnswer
-    requires { ((g : Grammar) × View words.now places.now n rules g) × ((length list.now ≤ mostNumbers) ×
+    requires { ((g : Grammar) × View words.now places.now n rules g) × ((length list.now ≤ most_numbers) ×
         (2 * length list.now ≤ length stack.old)) }
     ensures { Replay words.now list.now sentence.old result sentence.new }
 {

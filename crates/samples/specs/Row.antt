@@ -22,15 +22,15 @@ pub data Result : Type 0 where
 
 pub data Row : Type 0 where
   -- "unpack .."
-  unpack-of : (file : List ℕ) → Result → Row
+  unpack_of : (file : List ℕ) → Result → Row
   -- "tables of .."
-  tables-of : (words : List ℕ) → Result → Row
+  tables_of : (words : List ℕ) → Result → Row
   -- "replay .. over .."
-  replay-of : (list words : List ℕ) → Result → Row
+  replay_of : (list words : List ℕ) → Result → Row
   -- "words ..", which `tables` and `next` both refuse
-  refusal-of : (words : List ℕ) (number place : ℕ) → Row
+  refusal_of : (words : List ℕ) (number place : ℕ) → Row
   -- "words ..", with their table: what `next` hands out of them, one sentence a call, until it answers Finished
-  night-of : (words table : List ℕ) → List Handout → Row
+  night_of : (words table : List ℕ) → List Handout → Row
 
 -- A CALL ANSWERS SO. `promise` is its promise of the buffer before, the answer and the buffer afterwards.
 module _ {Answer : Type 0} (promise : List ℕ → Answer → List ℕ → Type 0) (done : ℕ → Answer) (refused : ℕ → ℕ → Answer) where
@@ -72,27 +72,27 @@ pub record ClearMarks (g : Grammar) (marks : List ℕ) : Type 0 where
 
 -- A ROW HOLDS. What follows the table in its lent words may be anything.
 abbrev pub Holds : Row → Type 0
-Holds (unpack-of file r) = Answers (Unpacked file) file-answer.Done file-answer.Refused r
-Holds (tables-of words r) = Answers (Tables words) table-answer.Done table-answer.Refused r
-Holds (replay-of list words r) = Answers (Replay words list) replay-answer.Done replay-answer.Refused r
-Holds (refusal-of words number place) =
+Holds (unpack_of file r) = Answers (Unpacked file) file-answer.Done file-answer.Refused r
+Holds (tables_of words r) = Answers (Tables words) table-answer.Done table-answer.Refused r
+Holds (replay_of list words r) = Answers (Replay words list) replay-answer.Done replay-answer.Refused r
+Holds (refusal_of words number place) =
     ((before : List ℕ) → Tables words before (table-answer.Refused number place) before) ×
     ((table : List ℕ) (before : Lent) → NextPromise words table before (next-answer.Refused number place) before)
-Holds (night-of words table hs) =
+Holds (night_of words table hs) =
     (g : Grammar) × (layout words ≡ reads g) ×
     ((rest marks : List ℕ) → ClearMarks g marks → Hands words (table ++ rest) marks hs)
 
 -- A ROW IS SETTLED: any outcome that the promises allow for it is the row's. Of a night: whichever calls come to Finished, they
 -- have handed out the row's (`Over` has the last one first).
 abbrev pub Settled : Row → Type 0
-Settled (unpack-of file r) = AnswersOnly (Unpacked file) file-answer.Done file-answer.Refused r
-Settled (tables-of words r) = AnswersOnly (Tables words) table-answer.Done table-answer.Refused r
-Settled (replay-of list words r) = AnswersOnly (Replay words list) replay-answer.Done replay-answer.Refused r
-Settled (refusal-of words number place) =
+Settled (unpack_of file r) = AnswersOnly (Unpacked file) file-answer.Done file-answer.Refused r
+Settled (tables_of words r) = AnswersOnly (Tables words) table-answer.Done table-answer.Refused r
+Settled (replay_of list words r) = AnswersOnly (Replay words list) replay-answer.Done replay-answer.Refused r
+Settled (refusal_of words number place) =
     AnswersOnly (Tables words) table-answer.Done table-answer.Refused (refuses number place) ×
     ((table : List ℕ) (before : Lent) (a : NextAnswer) (after : Lent) → NextPromise words table before a after →
     (a ≡ next-answer.Refused number place) × (after ≡ before))
-Settled (night-of words table hs) =
+Settled (night_of words table hs) =
     (rest : List ℕ) (handed : List Handout) → Over words (table ++ rest) handed → handed ≡ reverse hs
 
 -- of every row of a list

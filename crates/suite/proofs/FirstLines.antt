@@ -7,46 +7,46 @@ use mathlib.Core.List.{List, [], append-nil}
 use lib.ListN.{length, take}
 use lib.Seq.{length-take-le}
 use Rattle.answers.specs.GrammarRefusals as row
-use Rattle.answers.specs.GrammarRefusals.{GrammarRefusal, number, broken-layout}
+use Rattle.answers.specs.GrammarRefusals.{GrammarRefusal, number, broken_layout}
 use Rattle.grammar.specs.Rows.{GrammarRefused}
 use Rattle.grammar.specs.Terms.{limit}
-use Rattle.entries.specs.Table.{mostTable}
-use Rattle.entries.proofs.Main.{table-few}
+use Rattle.entries.specs.Table.{most_table}
+use Rattle.entries.proofs.Main.{table_few}
 use Rattle.grammar.specs.Words.{Grammar, R, Judged, layout, reads, faults}
 use Rattle.layout.specs.Judge.{answer_of}
 use Rattle.layout.specs.declared.judge.LayoutAnswer.TheVariants as layout-answer
-use Rattle.grammar.proofs.LayoutExact.{in_bounds, reads-unique}
+use Rattle.grammar.proofs.LayoutExact.{in_bounds, reads_unique}
 use Rattle.packed.specs.Promise.{Unpacked}
 use Rattle.packed.specs.declared.FileAnswer.TheVariants as file-answer
-use Rattle.packed.proofs.Main.{after-unpack, passes-exactly}
-use Rattle.tables.specs.Promise.{Tables, row-4-7, row-3}
+use Rattle.packed.proofs.Main.{after_unpack, passes_exactly}
+use Rattle.tables.specs.Promise.{Tables, row_4_7, row_3}
 use Rattle.tables.specs.declared.TableAnswer.TheVariants as table-answer
-use Rattle.tables.proofs.Main.{tables-own}
+use Rattle.tables.proofs.Main.{tables_own}
 use Rattle.handout.specs.Night.{clear}
-use Rattle.lines.specs.Lines.{suiteLine, refusedLine, mostLine}
+use Rattle.lines.specs.Lines.{suite_line, refused_line, most_line}
 use Rattle.lines.specs.Room.{LineWritten}
-use Rattle.lines.proofs.Main.{front, within, suite-few, refused-few}
+use Rattle.lines.proofs.Main.{front, within, suite_few, refused_few}
 use Rattle.suite.specs.declared.Piece.{Piece}
-use Rattle.suite.specs.Text.{sentenceLines, firstLine, Unpacks, Text, refused-file, refused-words}
+use Rattle.suite.specs.Text.{sentence_lines, first_line, Unpacks, Text, refused_file, refused_words}
 use Rattle.suite.specs.Pieces.{going, whole}
 use Rattle.suite.specs.Begun as begun
-use Rattle.suite.specs.Begun.{OneLine, SuiteLine, FirstLine, of-grammar, of-fault, OfWords, TextBegun}
+use Rattle.suite.specs.Begun.{OneLine, SuiteLine, FirstLine, of_grammar, of_fault, OfWords, TextBegun}
 
-module _ {text text' : List ℕ} {past : ℕ} (room : mostLine ≤ length text) where
+module _ {text text' : List ℕ} {past : ℕ} (room : most_line ≤ length text) where
   pub one_line : (number place : ℕ) → number < 65536 → place < 18446744073709551616 →
-      LineWritten (refusedLine number place) text 0 text' past →
+      LineWritten (refused_line number place) text 0 text' past →
       OneLine number place text' (record { words = 0; count = 0; length = past; over = true })
   one_line number place h k w =
-      let few = refused-few number place h k in
+      let few = refused_few number place h k in
       record { words = refl; over = refl; within = within w (omega arith); front = front w (omega arith) }
 
-  suite-line : (words : List ℕ) {g : Grammar} → layout words ≡ reads g → LineWritten (firstLine g) text 0 text' past →
+  suite_line_lem : (words : List ℕ) {g : Grammar} → layout words ≡ reads g → LineWritten (first_line g) text 0 text' past →
       SuiteLine g (length words) text' (record { words = length words; count = 0; length = past; over = false })
-  suite-line words {g} e w =
+  suite_line_lem words {g} e w =
       let ok = in_bounds words e in
       let few =
-      suite-few g.N g.T (R g) (omega (arith, ok.nonterminals)) (omega (arith, ok.terminals))
-      (omega (arith, ok.at-most-256)) in
+      suite_few g.N g.T (R g) (omega (arith, ok.nonterminals)) (omega (arith, ok.terminals))
+      (omega (arith, ok.at_most_256)) in
       record {
         words = refl;
         count = refl;
@@ -56,10 +56,10 @@ module _ {text text' : List ℕ} {past : ℕ} (room : mostLine ≤ length text) 
       }
 
   -- by what the judge answers
-  pub judged-grammar : (words : List ℕ) {N T S n : ℕ} → answer_of (layout words) ≡ layout-answer.Grammar N T S n →
-      LineWritten (suiteLine N T n) text 0 text' past →
+  pub judged_grammar : (words : List ℕ) {N T S n : ℕ} → answer_of (layout words) ≡ layout-answer.Grammar N T S n →
+      LineWritten (suite_line N T n) text 0 text' past →
       FirstLine words text' (record { words = length words; count = 0; length = past; over = false })
-  judged-grammar words {N} {T} {S} {n} e w = go (layout words) refl e
+  judged_grammar words {N} {T} {S} {n} e w = go (layout words) refl e
     where
       go : (j : Judged Grammar) → layout words ≡ j → answer_of j ≡ layout-answer.Grammar N T S n →
           FirstLine words text' (record { words = length words; count = 0; length = past; over = false })
@@ -67,75 +67,75 @@ module _ {text text' : List ℕ} {past : ℕ} (room : mostLine ≤ length text) 
           let a : g.N ≡ N = cc in
           let b : g.T ≡ T = cc in
           let c : R g ≡ n = cc in
-          of-grammar is (suite-line words is (rw (a, b, c) w))
+          of_grammar is (suite_line_lem words is (rw (a, b, c) w))
       go (faults p) is told = absurd (let z : ◌≡◌ {A = ℕ} 0 1 = cc in omega arith)
 
-pub judged-fault : (words : List ℕ) {text : List ℕ} {so : Piece} {p : ℕ} → answer_of (layout words) ≡ layout-answer.Fault p →
-    OneLine (number (broken-layout p)) p text so → FirstLine words text so
-judged-fault words {text} {so} {p} e line = go (layout words) refl e
+pub judged_fault : (words : List ℕ) {text : List ℕ} {so : Piece} {p : ℕ} → answer_of (layout words) ≡ layout-answer.Fault p →
+    OneLine (number (broken_layout p)) p text so → FirstLine words text so
+judged_fault words {text} {so} {p} e line = go (layout words) refl e
   where
     go : (j : Judged Grammar) → layout words ≡ j → answer_of j ≡ layout-answer.Fault p → FirstLine words text so
     go (reads g) is told = absurd (let z : ◌≡◌ {A = ℕ} 0 1 = cc in omega arith)
-    go (faults q) is told = let same : q ≡ p = cc in of-fault (rw same at is) line
+    go (faults q) is told = let same : q ≡ p = cc in of_fault (rw same at is) line
 
 -- by what `tables` answers
-pub with-table : {words before after text : List ℕ} {so : Piece} {n : ℕ} → Tables words before (table-answer.Done n) after →
+pub with_table : {words before after text : List ℕ} {so : Piece} {n : ℕ} → Tables words before (table-answer.Done n) after →
     FirstLine words text so → OfWords words after text so
-with-table {words} {n = n} p (of-grammar {g = g} e line) =
-    let (h, read, own) = tables-own p n refl in
-    let same : h ≡ g = reads-unique words read e in
+with_table {words} {n = n} p (of_grammar {g = g} e line) =
+    let (h, read, own) = tables_own p n refl in
+    let same : h ≡ g = reads_unique words read e in
     let (accepted, table) = rw same at own in
     begun.accepted e accepted table line
-with-table {n = n} p (of-fault e line) =
-    let (h, read, rest) = tables-own p n refl in
+with_table {n = n} p (of_fault e line) =
+    let (h, read, rest) = tables_own p n refl in
     absurd (let z : ◌≡◌ {A = ℕ} 0 1 = cc in omega arith)
 
 -- a refusal where there is room is one of rows 4 to 7
-of-rows : {words before after : List ℕ} {k p : ℕ} → mostTable ≤ length before → Tables words before (table-answer.Refused k p) after →
+of_rows : {words before after : List ℕ} {k p : ℕ} → most_table ≤ length before → Tables words before (table-answer.Refused k p) after →
     (x : GrammarRefusal) × GrammarRefused limit words x × (k ≡ row.number x) × (p ≡ row.place x)
-of-rows room (row-4-7 {x = x} r) = (x, r, refl, refl)
-of-rows {words} room (row-3 {g = g} e a h) = absurd (omega (arith, table-few g (in_bounds words e)))
+of_rows room (row_4_7 {x = x} r) = (x, r, refl, refl)
+of_rows {words} room (row_3 {g = g} e a h) = absurd (omega (arith, table_few g (in_bounds words e)))
 
-refused-text : {file words : List ℕ} {k p : ℕ} (x : GrammarRefusal) → Unpacks file words → GrammarRefused limit words x →
-    k ≡ row.number x → p ≡ row.place x → Text file (refusedLine k p)
-refused-text x u r e f = rw (e, f) (refused-words u r)
+refused_text : {file words : List ℕ} {k p : ℕ} (x : GrammarRefusal) → Unpacks file words → GrammarRefused limit words x →
+    k ≡ row.number x → p ≡ row.place x → Text file (refused_line k p)
+refused_text x u r e f = rw (e, f) (refused_words u r)
 
 -- by what `unpack` answers
-pub begun-refused : {file words before after table text : List ℕ} {so : Piece} {number place : ℕ} → 8707 ≤ length before →
+pub begun_refused : {file words before after table text : List ℕ} {so : Piece} {number place : ℕ} → 8707 ≤ length before →
     Unpacked file before (file-answer.Refused number place) after → OneLine number place text so → TextBegun file words table text so
-begun-refused room p line = record {
-  words-within = omega (arith, line.words);
+begun_refused room p line = record {
+  words_within = omega (arith, line.words);
   within = line.within;
-  so_far = λ marks zeros. whole line.over (rw line.front (refused-file room p));
+  so_far = λ marks zeros. whole line.over (rw line.front (refused_file room p));
 }
 
 unpacks : {file before after : List ℕ} {n : ℕ} → Unpacked file before (file-answer.Done n) after →
     Unpacks file (take n after) × (n ≤ length after)
 unpacks {file} p =
-    let (good, written) = after-unpack p refl in
-    let (version, long) = (passes-exactly file).1 good in
+    let (good, written) = after_unpack p refl in
+    let (version, long) = (passes_exactly file).1 good in
     (record { version = version; long = long; are = written.front }, written.within)
 
-pub begun-words : {file before after table text : List ℕ} {so : Piece} {n : ℕ} → Unpacked file before (file-answer.Done n) after →
+pub begun_words : {file before after table text : List ℕ} {so : Piece} {n : ℕ} → Unpacked file before (file-answer.Done n) after →
     OfWords (take n after) table text so → TextBegun file after table text so
-unfolding sentenceLines
-begun-words p (begun.refused-words room tables line) =
-    let (x, refused, number_is, place_is) = of-rows room tables in
+unfolding sentence_lines
+begun_words p (begun.refused_words room tables line) =
+    let (x, refused, number_is, place_is) = of_rows room tables in
     record {
-      words-within = omega (arith, line.words);
+      words_within = omega (arith, line.words);
       within = line.within;
-      so_far = λ marks zeros. whole line.over (rw line.front (refused-text x (unpacks p).0 refused number_is place_is));
+      so_far = λ marks zeros. whole line.over (rw line.front (refused_text x (unpacks p).0 refused number_is place_is));
     }
-begun-words {after = after} {so = so} {n = n} p (begun.accepted {g = g} e a h line) =
+begun_words {after = after} {so = so} {n = n} p (begun.accepted {g = g} e a h line) =
     let (file-words, fits) = unpacks p in
     let long = length-take-le n after fits in
     let same : so.words ≡ n = line.words ∙ long in
     record {
-      words-within = omega arith;
+      words_within = omega arith;
       within = line.within;
       so_far =
           λ marks zeros.
           rw same
           (going [] line.over (record { unpacks = file-words; grammar = e; accepted = a; tabled = h })
-          (clear e (zeros g (ap layout (sym file-words.are) ∙ e))) line.count (line.front ∙ sym (append-nil (firstLine g))));
+          (clear e (zeros g (ap layout (sym file-words.are) ∙ e))) line.count (line.front ∙ sym (append-nil (first_line g))));
     }

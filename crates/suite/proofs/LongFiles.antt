@@ -8,23 +8,23 @@ use mathlib.Core.List.{List, [], ◌∷◌}
 use lib.ListN.{length, take, get_or}
 use lib.Seq.{length-take-le, take_all}
 use Rattle.packed.specs.Promise.{NotVersionOne, BadLength}
-use Rattle.packed.specs.Promise.NotVersionOne.{empty, first-not-one}
-use Rattle.packed.specs.Promise.Unpacked.{wrong-version, wrong-length}
-use Rattle.packed.proofs.Main.{passes-exactly}
-use Rattle.lines.specs.Lines.{refusedLine}
+use Rattle.packed.specs.Promise.NotVersionOne.{empty, first_not_one}
+use Rattle.packed.specs.Promise.Unpacked.{wrong_version, wrong_length}
+use Rattle.packed.proofs.Main.{passes_exactly}
+use Rattle.lines.specs.Lines.{refused_line}
 use Rattle.suite.specs.Text.{Text}
-use Rattle.suite.proofs.TextSettled.{version?, bad-length?, file-line, text-settles}
+use Rattle.suite.proofs.TextSettled.{version?, bad_length?, file_line, text_settles}
 
-first-octet : (file : List ℕ) → get_or (take 17418 file) 0 0 ≡ get_or file 0 0
-first-octet [] = refl
-first-octet (x ∷ file) = refl
+first_octet : (file : List ℕ) → get_or (take 17418 file) 0 0 ≡ get_or file 0 0
+first_octet [] = refl
+first_octet (x ∷ file) = refl
 
-long-bad : (file : List ℕ) → 17418 ≤ length file → ¬ NotVersionOne file → BadLength file
-long-bad file long v = go (bad-length? file)
+long_bad : (file : List ℕ) → 17418 ≤ length file → ¬ NotVersionOne file → BadLength file
+long_bad file long v = go (bad_length? file)
   where
     go : Dec (BadLength file) → BadLength file
     go (yes b) = b
-    go (no n) = let good = (passes-exactly file).0 (v, n) in absurd (omega (arith, good.all, good.most))
+    go (no n) = let good = (passes_exactly file).0 (v, n) in absurd (omega (arith, good.all, good.most))
 
 -- two files that begin with the same octet, both too long
 same_text : (a b : List ℕ) → 17418 ≤ length a → 17418 ≤ length b → get_or a 0 0 ≡ get_or b 0 0 →
@@ -33,25 +33,25 @@ same_text a b long long' e = go (version? a) (version? b)
   where
     moved : (a b : List ℕ) → 17418 ≤ length a → get_or a 0 0 ≡ get_or b 0 0 → NotVersionOne a → NotVersionOne b
     moved a b long e (empty l) = absurd (omega arith)
-    moved a b long e (first-not-one n) = first-not-one (λ is. n (e ∙ is))
+    moved a b long e (first_not_one n) = first_not_one (λ is. n (e ∙ is))
 
     go : Dec (NotVersionOne a) → Dec (NotVersionOne b) → (out : List ℕ) × Text a out × Text b out
     go (yes v) d =
         let w = moved a b long e v in
-        (refusedLine 1 0, file-line (λ before. wrong-version v), file-line (λ before. wrong-version w))
+        (refused_line 1 0, file_line (λ before. wrong_version v), file_line (λ before. wrong_version w))
     go (no v) (yes w) = absurd (v (moved b a long' (sym e) w))
     go (no v) (no w) =
-        let l = long-bad a long v in
-        let k = long-bad b long' w in
-        (refusedLine 2 1, file-line (λ before. wrong-length v l), file-line (λ before. wrong-length w k))
+        let l = long_bad a long v in
+        let k = long_bad b long' w in
+        (refused_line 2 1, file_line (λ before. wrong_length v l), file_line (λ before. wrong_length w k))
 
-pub read-text : (file : List ℕ) {out : List ℕ} → Text (take 17418 file) out → Text file out
-read-text file {out} t = go (dec_le 17418 (length file))
+pub read_text : (file : List ℕ) {out : List ℕ} → Text (take 17418 file) out → Text file out
+read_text file {out} t = go (dec_le 17418 (length file))
   where
     go : Dec (17418 ≤ length file) → Text file out
     go (yes long) =
         let l = length-take-le 17418 file long in
-        let (line, of-read, of-file) = same_text (take 17418 file) file (omega arith) long (first-octet file) in
-        let same : out ≡ line = text-settles t of-read in
+        let (line, of-read, of-file) = same_text (take 17418 file) file (omega arith) long (first_octet file) in
+        let same : out ≡ line = text_settles t of-read in
         rw same of-file
     go (no short) = let all : take 17418 file ≡ file = take_all 17418 file (omega arith) in rw all at t

@@ -14,19 +14,19 @@ use Rattle.grammar.specs.Refusals.{Accepted}
 use Rattle.grammar.specs.Terms.{limit}
 use Rattle.entries.specs.Table.{HasTable}
 use Rattle.handout.specs.Night.{Handout, handout, Over}
-use Rattle.lines.specs.Lines.{suiteLine, sentenceLine, endLine, refusedLine}
+use Rattle.lines.specs.Lines.{suite_line, sentence_line, end_line, refused_line}
 
 -- the lines of a night's handouts, of which the last stands first
-unfoldable pub sentenceLines : List Handout → List ℕ
-sentenceLines [] = []
-sentenceLines (handout r t ks ∷ hs) = sentenceLines hs ++ sentenceLine r t ks
+unfoldable pub sentence_lines : List Handout → List ℕ
+sentence_lines [] = []
+sentence_lines (handout r t ks ∷ hs) = sentence_lines hs ++ sentence_line r t ks
 
 -- the first line, a line for each handout, the last line
-abbrev pub firstLine : Grammar → List ℕ
-firstLine g = suiteLine g.N g.T (R g)
+abbrev pub first_line : Grammar → List ℕ
+first_line g = suite_line g.N g.T (R g)
 
-unfoldable pub suiteText : Grammar → List Handout → List ℕ
-suiteText g hs = firstLine g ++ sentenceLines hs ++ endLine (length hs)
+unfoldable pub suite_text : Grammar → List Handout → List ℕ
+suite_text g hs = first_line g ++ sentence_lines hs ++ end_line (length hs)
 
 -- neither 1 nor 2 is given, and these are the words of the file
 pub record Unpacks (file words : List ℕ) : Type 0 where
@@ -43,9 +43,9 @@ pub record Accepts (file words table : List ℕ) (g : Grammar) : Type 0 where
 
 -- THE TEXT of a file, which has at most 8,707 words.
 pub data Text (file : List ℕ) : List ℕ → Type 0 where
-  refused-file : {before after : List ℕ} {number place : ℕ} → 8707 ≤ length before →
-      Unpacked file before (file-answer.Refused number place) after → Text file (refusedLine number place)
-  refused-words : {words : List ℕ} {x : GrammarRefusal} → Unpacks file words → GrammarRefused limit words x →
-      Text file (refusedLine (row.number x) (row.place x))
+  refused_file : {before after : List ℕ} {number place : ℕ} → 8707 ≤ length before →
+      Unpacked file before (file-answer.Refused number place) after → Text file (refused_line number place)
+  refused_words : {words : List ℕ} {x : GrammarRefusal} → Unpacks file words → GrammarRefused limit words x →
+      Text file (refused_line (row.number x) (row.place x))
   suite : {words table : List ℕ} {g : Grammar} {hs : List Handout} → Accepts file words table g → Over words table hs →
-      Text file (suiteText g hs)
+      Text file (suite_text g hs)

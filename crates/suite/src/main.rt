@@ -2,12 +2,12 @@
 // `handout::next` hands out from clear marks, until every rule has been used; a refused file gives one line. What a line is
 // stands in crates/lines. The text comes in pieces, each of as many lines as surely fit: `first_piece` and then `next_piece` fill
 // a buffer and say how much of it is to be written, and that the pieces joined are the document's text of the input is proved
-// (`whole-text`). Only `print_pieces` writes. A read that fails is the end of the input; after a write that fails nothing more is
+// (`whole_text`). Only `print_pieces` writes. A read that fails is the end of the input; after a write that fails nothing more is
 // written.
 ghost use Rattle.std.specs.Prelude.{◌≤◌, ◌≡◌, false, length};
-ghost use Rattle.entries.specs.Table.{mostTable};
+ghost use Rattle.entries.specs.Table.{most_table};
 ghost use Rattle.handout.specs.Next.{Lent};
-ghost use Rattle.lines.specs.Lines.{mostLine};
+ghost use Rattle.lines.specs.Lines.{most_line};
 ghost use Rattle.suite.specs.Answered.{LineEnded, Answered};
 ghost use Rattle.suite.specs.Begun.{OneLine, FirstLine, OfWords, TextBegun};
 ghost use Rattle.suite.specs.Filled.{Waits, Filled};
@@ -28,7 +28,7 @@ const MOST_WORDS: usize = 8707;
 
 const MOST_RULES: usize = 256;
 
-// The most octets of a line (`sentence-few` and the others of crates/lines).
+// The most octets of a line (`sentence_few` and the others of crates/lines).
 const MOST_LINE: usize = 24594;
 
 // How far the text is: how many words the grammar has, how many sentences there were, how many octets of the buffer are the piece,
@@ -50,7 +50,7 @@ fn main() {
 
 // Calls for the pieces, one after the other, and writes each.
 fn print_pieces(file: &[u8], text: &mut [u8])
-    requires { mostLine ≤ length text.old }
+    requires { most_line ≤ length text.old }
 {
     let mut words = [0u16; MOST_WORDS];
     let mut table = [0u16; MOST_TABLE];
@@ -80,7 +80,7 @@ fn first_piece(
     marks: &mut [u8],
     text: &mut [u8],
 ) -> Piece
-    requires in_bounds { (8707 ≤ length words.old) × (mostTable ≤ length table.old) }
+    requires in_bounds { (8707 ≤ length words.old) × (most_table ≤ length table.old) }
     requires large { Large marks.old text.old }
     requires clear { Clear file.now marks.old }
     ensures { FirstPiece file.now words.new table.new marks.new
@@ -195,7 +195,7 @@ fn ended(text: &mut [u8], so: Piece) -> Piece
 
 // The first line of a file's text, at the front of the text.
 fn begin(file: &[u8], words: &mut [u16], table: &mut [u16], text: &mut [u8]) -> Piece
-    requires { (8707 ≤ length words.old) × (mostTable ≤ length table.old) × (mostLine ≤ length text.old) }
+    requires { (8707 ≤ length words.old) × (most_table ≤ length table.old) × (most_line ≤ length text.old) }
     ensures { TextBegun file.now words.new table.new text.new result }
 {
     match packed::unpack(file, words) {
@@ -205,7 +205,7 @@ fn begin(file: &[u8], words: &mut [u16], table: &mut [u16], text: &mut [u8]) -> 
 }
 
 fn of_words(words: &[u16], table: &mut [u16], text: &mut [u8]) -> Piece
-    requires { (mostTable ≤ length table.old) × (mostLine ≤ length text.old) }
+    requires { (most_table ≤ length table.old) × (most_line ≤ length text.old) }
     ensures { OfWords words.now table.new text.new result }
 {
     match tables::tables(words, table) {
@@ -215,7 +215,7 @@ fn of_words(words: &[u16], table: &mut [u16], text: &mut [u8]) -> Piece
 }
 
 fn of_grammar(words: &[u16], text: &mut [u8]) -> Piece
-    requires { mostLine ≤ length text.old }
+    requires { most_line ≤ length text.old }
     ensures { FirstLine words.now text.new result }
 {
     match judge::judge(words) {
@@ -236,7 +236,7 @@ fn of_grammar(words: &[u16], text: &mut [u8]) -> Piece
 
 // The one line of a refused file.
 fn refused(number: u16, place: usize, text: &mut [u8]) -> Piece
-    requires { mostLine ≤ length text.old }
+    requires { most_line ≤ length text.old }
     ensures { OneLine number place text.new result }
 {
     Piece {

@@ -12,11 +12,11 @@ says true y n = y refl
 says false y n = n refl
 
 module _ {P : Type 0} (x y : ℕ) where
-  pub says-lt : (x < y → P) → (y ≤ x → ¬ P) → Says (ltb x y) P
-  says-lt p n = says (ltb x y) (λ e. p (ltb-true x y e)) (λ e. n (ltb-false x y e))
+  pub says_lt : (x < y → P) → (y ≤ x → ¬ P) → Says (ltb x y) P
+  says_lt p n = says (ltb x y) (λ e. p (ltb-true x y e)) (λ e. n (ltb-false x y e))
 
-  pub says-le : (x ≤ y → P) → (y < x → ¬ P) → Says (leb x y) P
-  says-le p n = says (leb x y) (λ e. p (leb-true x y e)) (λ e. n (leb-false x y e))
+  pub says_le : (x ≤ y → P) → (y < x → ¬ P) → Says (leb x y) P
+  says_le p n = says (leb x y) (λ e. p (leb-true x y e)) (λ e. n (leb-false x y e))
 
   pub says_eq : (x ≡ y → P) → (¬ (x ≡ y) → ¬ P) → Says (eqb x y) P
   says_eq p n = says (eqb x y) (λ e. p (eqb-true x y e)) (λ e. n (eqb-false x y e))

@@ -6,9 +6,9 @@
 use Rattle.std.specs.Prelude.{ℕ, ◌+◌, ◌≤◌, ◌<◌, ◌≡◌, ◌⊎◌, Bool, true, false, List, length, get_or}
 use Rattle.grammar.specs.Words.{Grammar, RuleAt}
 use Rattle.grammar.specs.Terms.{measure, limit}
-use Rattle.layout.specs.Rules.{rightAt}
+use Rattle.layout.specs.Rules.{right_at}
 use Rattle.grammar.specs.Certificates.{word_size, Holds}
-use Rattle.entries.specs.Table.{tableLength, leastIn, chosenIn, contextIn, ruleIn, place_in, totalIn, noChoice}
+use Rattle.entries.specs.Table.{table_length, least_in, chosen_in, context_in, rule_in, place_in, total_in, no_choice}
 use Rattle.layout.specs.View.{View}
 
 -- a test's answer: it holds, or it does not
@@ -23,8 +23,8 @@ Answer ws places n rules P r = (g : Grammar) → View ws places n rules g → Sa
 -- The symbol B at place i of rule k, whose total is t: v B + u B is at most t, and where it is t the context rule and place of B
 -- do not come after k and i.
 pub record PlacePasses (table : List ℕ) (B k i t : ℕ) : Type 0 where
-  pub below : leastIn table B + contextIn table B ≤ t
-  pub first : leastIn table B + contextIn table B ≡ t → (ruleIn table B < k) ⊎ ((ruleIn table B ≡ k) × (place_in table B ≤ i))
+  pub below : least_in table B + context_in table B ≤ t
+  pub first : least_in table B + context_in table B ≡ t → (rule_in table B < k) ⊎ ((rule_in table B ≡ k) × (place_in table B ≤ i))
 
 -- at each place of w that holds a nonterminal
 abbrev pub PlacesPass : List ℕ → ℕ → ℕ → ℕ → List ℕ → Type 0
@@ -33,55 +33,55 @@ PlacesPass table n k t w = (i B : ℕ) → Holds w i B → B < n → PlacePasses
 -- The left side A of rule k, whose size is x and whose total is t: t is u A + x, v A is at most x, and where it is x the chosen
 -- rule of A does not come after k.
 pub record LeftPasses (table : List ℕ) (A k x t : ℕ) : Type 0 where
-  pub total : contextIn table A + x ≡ t
-  pub below : leastIn table A ≤ x
-  pub first : leastIn table A ≡ x → chosenIn table A ≤ k
+  pub total : context_in table A + x ≡ t
+  pub below : least_in table A ≤ x
+  pub first : least_in table A ≡ x → chosen_in table A ≤ k
 
 -- the size of a rule by the leasts that the table has
-abbrev pub sizeIn : Grammar → List ℕ → List ℕ → ℕ
-sizeIn g table w = 1 + word_size measure g (leastIn table) w
+abbrev pub size_in : Grammar → List ℕ → List ℕ → ℕ
+size_in g table w = 1 + word_size measure g (least_in table) w
 
 -- rule k, A ⟶ w, whose total is t
 pub record RulePasses (g : Grammar) (table : List ℕ) (k t A : ℕ) (w : List ℕ) : Type 0 where
   pub fits : t ≤ limit
   pub places : PlacesPass table g.N k t w
-  pub left : LeftPasses table A k (sizeIn g table w) t
+  pub left : LeftPasses table A k (size_in g table w) t
 
 -- what is answered of the rule that stands at an index
 abbrev pub RuleAnswer : List ℕ → ℕ → ℕ → ℕ → ℕ → List ℕ → Bool → Type 0
-RuleAnswer ws at n k t table r = (g : Grammar) → n ≡ g.N → Says r (RulePasses g table k t (get_or ws at 0) (rightAt ws at))
+RuleAnswer ws at n k t table r = (g : Grammar) → n ≡ g.N → Says r (RulePasses g table k t (get_or ws at 0) (right_at ws at))
 
 abbrev pub RulesPass : Grammar → List ℕ → Type 0
-RulesPass g table = (k A : ℕ) (w : List ℕ) → RuleAt g k A w → RulePasses g table k (totalIn g.N table k) A w
+RulesPass g table = (k A : ℕ) (w : List ℕ) → RuleAt g k A w → RulePasses g table k (total_in g.N table k) A w
 
 -- the total of rule k, of n nonterminals, is v A + u A
 abbrev pub ComesTo : ℕ → List ℕ → ℕ → ℕ → Type 0
-ComesTo n table k A = totalIn n table k ≡ leastIn table A + contextIn table A
+ComesTo n table k A = total_in n table k ≡ least_in table A + context_in table A
 
 -- the chosen rule of A is one of A, and its total is v A + u A
 pub record ChosenPasses (g : Grammar) (table : List ℕ) (A : ℕ) : Type 0 where
   pub w : List ℕ
-  pub rule : RuleAt g (chosenIn table A) A w
-  pub total : ComesTo g.N table (chosenIn table A) A
+  pub rule : RuleAt g (chosen_in table A) A w
+  pub total : ComesTo g.N table (chosen_in table A) A
 
 -- the context rule of A has A at the context place, and its total is v A + u A
 pub record ContextPasses (g : Grammar) (table : List ℕ) (A : ℕ) : Type 0 where
   pub B : ℕ
   pub w : List ℕ
-  pub rule : RuleAt g (ruleIn table A) B w
+  pub rule : RuleAt g (rule_in table A) B w
   pub holds : Holds w (place_in table A) A
-  pub total : ComesTo g.N table (ruleIn table A) A
+  pub total : ComesTo g.N table (rule_in table A) A
 
 -- the context of A, which is the start, is 0, with no rule and no place
 pub record StartPasses (table : List ℕ) (A : ℕ) : Type 0 where
-  pub context : contextIn table A ≡ 0
-  pub rule : ruleIn table A ≡ noChoice
-  pub place : place_in table A ≡ noChoice
+  pub context : context_in table A ≡ 0
+  pub rule : rule_in table A ≡ no_choice
+  pub place : place_in table A ≡ no_choice
 
 -- the choices of A, where S is the start
 pub record ChoicePasses (g : Grammar) (S : ℕ) (table : List ℕ) (A : ℕ) : Type 0 where
   pub chosen : ChosenPasses g table A
-  pub at-start : A ≡ S → StartPasses table A
+  pub at_start : A ≡ S → StartPasses table A
   pub context : ¬ (A ≡ S) → ContextPasses g table A
 
 abbrev pub ChoicesPass : Grammar → ℕ → List ℕ → Type 0
@@ -89,12 +89,12 @@ ChoicesPass g S table = (A : ℕ) → A < g.N → ChoicePasses g S table A
 
 -- ALL TESTS
 pub record TablePasses (g : Grammar) (table : List ℕ) : Type 0 where
-  pub long : tableLength g ≤ length table
+  pub long : table_length g ≤ length table
   pub choices : ChoicesPass g g.start table
   pub rules : RulesPass g table
 
 -- What `size_passes` gives for the symbols w of rule k, whose total is t: 0 where a place does not pass, else the size.
 pub data SizePasses (table : List ℕ) (n k t : ℕ) (w : List ℕ) : ℕ → Type 0 where
-  one-fails : ¬ PlacesPass table n k t w → SizePasses table n k t w 0
-  all_pass : {x : ℕ} → PlacesPass table n k t w → 1 ≤ x → ((g : Grammar) → n ≡ g.N → x ≡ sizeIn g table w) →
+  one_fails : ¬ PlacesPass table n k t w → SizePasses table n k t w 0
+  all_pass : {x : ℕ} → PlacesPass table n k t w → 1 ≤ x → ((g : Grammar) → n ≡ g.N → x ≡ size_in g table w) →
       SizePasses table n k t w x

@@ -3,7 +3,7 @@
 mod passes;
 
 ghost use Rattle.std.specs.Prelude.{◌≡◌};
-ghost use Rattle.table_test.specs.Promise.{TestPromise, notIts};
+ghost use Rattle.table_test.specs.Promise.{TestPromise, testing_not_its};
 
 use layout::judge;
 use layout::judge::LayoutAnswer;
@@ -61,7 +61,7 @@ pub fn test(words: &[u16], table: &[u16]) -> Testing
 
 // No accepted grammar with its own table: no place is told.
 fn not_its() -> Testing
-    ensures { result ≡ notIts }
+    ensures { result ≡ testing_not_its }
 {
     Testing {
         answer: TableTest::NotIts,

@@ -6,34 +6,34 @@ use mathlib.Core.Path.{◌≡◌, refl}
 use mathlib.Core.List.Memᴰ
 use mathlib.Core.List.{List, [], ◌∷◌, ◌++◌}
 use lib.ListN.{replicate}
-use Rattle.answers.specs.GrammarRefusals.{broken-layout, no-tree, unreached}
+use Rattle.answers.specs.GrammarRefusals.{broken_layout, no_tree, unreached}
 use Rattle.answers.specs.Buffers.{over}
 use Rattle.grammar.specs.Words.{Grammar, ◌⟶◌, RuleAt, layout, lefts, reads}
 use Rattle.grammar.specs.Tree.{Tree, node, nil}
 use Rattle.grammar.specs.Derivation.{none}
 use Rattle.grammar.specs.Refusals.{NoTree, Unreached, AllTrees}
-use Rattle.grammar.specs.Rows.{row-4, row-5, row-6}
-use Rattle.grammar.proofs.Dead.{closed-reached}
-use Rattle.grammar.specs.Samples.{D-words, D-table}
-use Rattle.grammar.proofs.ASampleOfWords.{D-reads, no_words, ends-early, no-rules}
-use Rattle.entries.proofs.ASampleOfTables.{D-accepted, D-has-table}
+use Rattle.grammar.specs.Rows.{row_4, row_5, row_6}
+use Rattle.grammar.proofs.Dead.{closed_reached}
+use Rattle.grammar.specs.Samples.{D_words, D_table}
+use Rattle.grammar.proofs.ASampleOfWords.{D_reads, no_words, ends_early, no_rules}
+use Rattle.entries.proofs.ASampleOfTables.{D_accepted, D_has_table}
 use Rattle.tables.specs.Answers.{answer, done, of_words, too_short}
-use Rattle.tables.specs.Promise.{Tables, row-4-7, row-3, row_done}
+use Rattle.tables.specs.Promise.{Tables, row_4_7, row_3, row_done}
 
 -- into 22 words it is written, and the last of them keeps its content; into 20 it does not fit
-pub D-written : Tables D-words (replicate 22 9) (answer (done 21)) (D-table ++ 9 ∷ [])
+pub D_written : Tables D_words (replicate 22 9) (answer (done 21)) (D_table ++ 9 ∷ [])
 unfolding over
-D-written = row_done D-reads D-accepted (omega arith) D-has-table
+D_written = row_done D_reads D_accepted (omega arith) D_has_table
 
-pub D-too-long : Tables D-words (replicate 20 9) (answer (too_short 21)) (replicate 20 9)
-D-too-long = row-3 D-reads D-accepted (omega arith)
+pub D_too_long : Tables D_words (replicate 20 9) (answer (too_short 21)) (replicate 20 9)
+D_too_long = row_3 D_reads D_accepted (omega arith)
 
 -- "words 3 4: 4 at 2"; "zero words; tables of them: 4 at 0"
-pub breaks-at-2 : Tables (3 ∷ 4 ∷ []) [] (answer (of_words (broken-layout 2))) []
-breaks-at-2 = row-4-7 (row-4 ends-early)
+pub breaks_at_2 : Tables (3 ∷ 4 ∷ []) [] (answer (of_words (broken_layout 2))) []
+breaks_at_2 = row_4_7 (row_4 ends_early)
 
-pub breaks-at-0 : Tables [] [] (answer (of_words (broken-layout 0))) []
-breaks-at-0 = row-4-7 (row-4 no_words)
+pub breaks_at_0 : Tables [] [] (answer (of_words (broken_layout 0))) []
+breaks_at_0 = row_4_7 (row_4 no_words)
 
 -- "words 2 0 0 0 0: 5 at 1": 1 has no tree and is not reached, and 5 comes before 6
 abbrev half : Grammar
@@ -43,30 +43,30 @@ half-reads : layout (2 ∷ 0 ∷ 0 ∷ 0 ∷ 0 ∷ []) ≡ reads half
 unfolding layout lefts
 half-reads = refl
 
-no-tree-of-1 : Tree half 1 → ⊥
-no-tree-of-1 (node zero r f) = let s = r.stands in let z : ◌≡◌ {A = ℕ} 0 1 = cc in omega arith
-no-tree-of-1 (node (suc k) r f) = let s = r.stands in let z : ◌≡◌ {A = ℕ} 0 1 = cc in omega arith
+no_tree_of_1 : Tree half 1 → ⊥
+no_tree_of_1 (node zero r f) = let s = r.stands in let z : ◌≡◌ {A = ℕ} 0 1 = cc in omega arith
+no_tree_of_1 (node (suc k) r f) = let s = r.stands in let z : ◌≡◌ {A = ℕ} 0 1 = cc in omega arith
 
-half-lowest : (m : ℕ) → NoTree half m → 1 ≤ m
-half-lowest zero z = absurd (z.none (node 0 (record { stands = refl; left = omega arith }) nil))
-half-lowest (suc m) z = omega arith
+half_lowest : (m : ℕ) → NoTree half m → 1 ≤ m
+half_lowest zero z = absurd (z.none (node 0 (record { stands = refl; left = omega arith }) nil))
+half_lowest (suc m) z = omega arith
 
-pub no-tree-at-1 : Tables (2 ∷ 0 ∷ 0 ∷ 0 ∷ 0 ∷ []) [] (answer (of_words (no-tree 1))) []
-no-tree-at-1 =
-    let such : NoTree half 1 = record { nonterminal = omega arith; none = no-tree-of-1 } in
-    row-4-7 (row-5 half-reads (record { such = such; lowest = half-lowest }))
+pub no_tree_at_1 : Tables (2 ∷ 0 ∷ 0 ∷ 0 ∷ 0 ∷ []) [] (answer (of_words (no_tree 1))) []
+no_tree_at_1 =
+    let such : NoTree half 1 = record { nonterminal = omega arith; none = no_tree_of_1 } in
+    row_4_7 (row_5 half-reads (record { such = such; lowest = half_lowest }))
 
 -- "words 1 0 0: 5 at 0"
 abbrev ruleless : Grammar
 ruleless = record { N = 1; T = 0; start = 0; rules = [] }
 
-no-tree-of-0 : Tree ruleless 0 → ⊥
-no-tree-of-0 (node k r f) = let s = r.stands in let z : ◌≡◌ {A = ℕ} 0 1 = cc in omega arith
+no_tree_of_0 : Tree ruleless 0 → ⊥
+no_tree_of_0 (node k r f) = let s = r.stands in let z : ◌≡◌ {A = ℕ} 0 1 = cc in omega arith
 
-pub no-tree-at-0 : Tables (1 ∷ 0 ∷ 0 ∷ []) [] (answer (of_words (no-tree 0))) []
-no-tree-at-0 =
-    let such : NoTree ruleless 0 = record { nonterminal = omega arith; none = no-tree-of-0 } in
-    row-4-7 (row-5 no-rules (record { such = such; lowest = λ m z. omega arith }))
+pub no_tree_at_0 : Tables (1 ∷ 0 ∷ 0 ∷ []) [] (answer (of_words (no_tree 0))) []
+no_tree_at_0 =
+    let such : NoTree ruleless 0 = record { nonterminal = omega arith; none = no_tree_of_0 } in
+    row_4_7 (row_5 no_rules (record { such = such; lowest = λ m z. omega arith }))
 
 -- "words 2 0 0 0 0 1 0: 6 at 1"
 abbrev apart : Grammar
@@ -76,31 +76,31 @@ apart-reads : layout (2 ∷ 0 ∷ 0 ∷ 0 ∷ 0 ∷ 1 ∷ 0 ∷ []) ≡ reads ap
 unfolding layout lefts
 apart-reads = refl
 
-apart-trees : AllTrees apart
-apart-trees zero lt = node 0 (record { stands = refl; left = lt }) nil
-apart-trees (suc zero) lt = node 1 (record { stands = refl; left = lt }) nil
-apart-trees (suc (suc A)) lt = absurd (omega arith)
+apart_trees : AllTrees apart
+apart_trees zero lt = node 0 (record { stands = refl; left = lt }) nil
+apart_trees (suc zero) lt = node 1 (record { stands = refl; left = lt }) nil
+apart_trees (suc (suc A)) lt = absurd (omega arith)
 
-all-empty : (k B : ℕ) (w : List ℕ) → RuleAt apart k B w → w ≡ []
-all-empty zero B w r = let s = r.stands in cc
-all-empty (suc zero) B w r = let s = r.stands in cc
-all-empty (suc (suc k)) B w r = absurd (let s = r.stands in let z : ◌≡◌ {A = ℕ} 0 1 = cc in omega arith)
+all_empty : (k B : ℕ) (w : List ℕ) → RuleAt apart k B w → w ≡ []
+all_empty zero B w r = let s = r.stands in cc
+all_empty (suc zero) B w r = let s = r.stands in cc
+all_empty (suc (suc k)) B w r = absurd (let s = r.stands in let z : ◌≡◌ {A = ℕ} 0 1 = cc in omega arith)
 
-apart-unreached : Unreached apart 1
-apart-unreached = record {
+apart_unreached : Unreached apart 1
+apart_unreached = record {
   nonterminal = omega arith;
   never = λ z.
-      let zero-only = closed-reached apart (λ A. A ≡ 0) (record {
+      let zero-only = closed_reached apart (λ A. A ≡ 0) (record {
         start = refl;
-        names = λ k B w A r e m lt. absurd (Memᴰ.not-nil (rw (all-empty k B w r) at m));
+        names = λ k B w A r e m lt. absurd (Memᴰ.not-nil (rw (all_empty k B w r) at m));
       }) z (omega arith) in
       omega arith;
 }
 
-apart-lowest : (m : ℕ) → Unreached apart m → 1 ≤ m
-apart-lowest zero z = absurd (z.never (record { γ = []; β = []; derived = none }))
-apart-lowest (suc m) z = omega arith
+apart_lowest : (m : ℕ) → Unreached apart m → 1 ≤ m
+apart_lowest zero z = absurd (z.never (record { γ = []; β = []; derived = none }))
+apart_lowest (suc m) z = omega arith
 
-pub unreached-at-1 : Tables (2 ∷ 0 ∷ 0 ∷ 0 ∷ 0 ∷ 1 ∷ 0 ∷ []) [] (answer (of_words (unreached 1))) []
-unreached-at-1 =
-    row-4-7 (row-6 apart-reads apart-trees (record { such = apart-unreached; lowest = apart-lowest }))
+pub unreached_at_1 : Tables (2 ∷ 0 ∷ 0 ∷ 0 ∷ 0 ∷ 1 ∷ 0 ∷ []) [] (answer (of_words (unreached 1))) []
+unreached_at_1 =
+    row_4_7 (row_6 apart-reads apart_trees (record { such = apart_unreached; lowest = apart_lowest }))

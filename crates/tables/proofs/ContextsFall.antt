@@ -9,42 +9,42 @@ use Rattle.figures.specs.Figures.{figure}
 use Rattle.figures.specs.Weights.{Fallen}
 use Rattle.tables.specs.ContextSteps.{PlaceStep, skipped, tried, PlacesStep, no_symbol, symbol}
 use Rattle.tables.specs.ContextSteps.{ContextStep, as_seen, unseen}
-use Rattle.figures.proofs.FiguresFall.{lowered-fallen}
-use Rattle.figures.proofs.FiguresKept.{lowered-once, lowered-length, lowered-no-higher}
+use Rattle.figures.proofs.FiguresFall.{lowered_fallen}
+use Rattle.figures.proofs.FiguresKept.{lowered_once, lowered_length, lowered_no_higher}
 
 abbrev pub NoHigher : List ℕ → List ℕ → Type 0
 NoHigher us us' = (A : ℕ) → figure us' A ≤ figure us A
 
 module _ {n whole : ℕ} {vs : List ℕ} where
-  pub place-once : {s f : ℕ} {us us' : List ℕ} → PlaceStep n whole vs s us us' f → f ≤ 1
-  place-once (skipped h) = omega arith
-  place-once (tried h l d) = lowered-once d
+  pub place_once : {s f : ℕ} {us us' : List ℕ} → PlaceStep n whole vs s us us' f → f ≤ 1
+  place_once (skipped h) = omega arith
+  place_once (tried h l d) = lowered_once d
 
-  place-fallen : {s f : ℕ} {us us' : List ℕ} → PlaceStep n whole vs s us us' f → Fallen us us' f
-  place-fallen (skipped h) = omega arith
-  place-fallen (tried h l d) = lowered-fallen d
+  place_fallen : {s f : ℕ} {us us' : List ℕ} → PlaceStep n whole vs s us us' f → Fallen us us' f
+  place_fallen (skipped h) = omega arith
+  place_fallen (tried h l d) = lowered_fallen d
 
-  pub place-length : {s f : ℕ} {us us' : List ℕ} → PlaceStep n whole vs s us us' f → length us' ≡ length us
-  place-length (skipped h) = refl
-  place-length (tried h l d) = lowered-length d
+  pub place_length : {s f : ℕ} {us us' : List ℕ} → PlaceStep n whole vs s us us' f → length us' ≡ length us
+  place_length (skipped h) = refl
+  place_length (tried h l d) = lowered_length d
 
-  places-fallen : {w us us' : List ℕ} {f : ℕ} → PlacesStep n whole vs w us us' f → Fallen us us' f
-  places-fallen no_symbol = omega arith
-  places-fallen (symbol p ps) = omega (arith, place-fallen p, places-fallen ps)
+  places_fallen : {w us us' : List ℕ} {f : ℕ} → PlacesStep n whole vs w us us' f → Fallen us us' f
+  places_fallen no_symbol = omega arith
+  places_fallen (symbol p ps) = omega (arith, place_fallen p, places_fallen ps)
 
-  place-no-higher : {s f : ℕ} {us us' : List ℕ} → PlaceStep n whole vs s us us' f → NoHigher us us'
-  place-no-higher (skipped h) A = omega arith
-  place-no-higher (tried h l d) A = lowered-no-higher d A
+  place_no_higher : {s f : ℕ} {us us' : List ℕ} → PlaceStep n whole vs s us us' f → NoHigher us us'
+  place_no_higher (skipped h) A = omega arith
+  place_no_higher (tried h l d) A = lowered_no_higher d A
 
-  pub places-no-higher : {w us us' : List ℕ} {f : ℕ} → PlacesStep n whole vs w us us' f → NoHigher us us'
-  places-no-higher no_symbol A = omega arith
-  places-no-higher (symbol p ps) A = omega (arith, place-no-higher p A, places-no-higher ps A)
+  pub places_no_higher : {w us us' : List ℕ} {f : ℕ} → PlacesStep n whole vs w us us' f → NoHigher us us'
+  places_no_higher no_symbol A = omega arith
+  places_no_higher (symbol p ps) A = omega (arith, place_no_higher p A, places_no_higher ps A)
 
 module _ {n size k B : ℕ} {vs w : List ℕ} where
-  pub context-fallen : {f : ℕ} {us us' seen seen' : List ℕ} → ContextStep n size vs k B w us seen us' seen' f → Fallen us us' f
-  context-fallen (as_seen e) = omega arith
-  context-fallen (unseen room small differs ps) = places-fallen ps
+  pub context_fallen : {f : ℕ} {us us' seen seen' : List ℕ} → ContextStep n size vs k B w us seen us' seen' f → Fallen us us' f
+  context_fallen (as_seen e) = omega arith
+  context_fallen (unseen room small differs ps) = places_fallen ps
 
-  pub context-no-higher : {f : ℕ} {us us' seen seen' : List ℕ} → ContextStep n size vs k B w us seen us' seen' f → NoHigher us us'
-  context-no-higher (as_seen e) A = omega arith
-  context-no-higher (unseen room small differs ps) A = places-no-higher ps A
+  pub context_no_higher : {f : ℕ} {us us' seen seen' : List ℕ} → ContextStep n size vs k B w us seen us' seen' f → NoHigher us us'
+  context_no_higher (as_seen e) A = omega arith
+  context_no_higher (unseen room small differs ps) A = places_no_higher ps A

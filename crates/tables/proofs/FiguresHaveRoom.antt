@@ -4,11 +4,11 @@ use mathlib.Core.List.{List}
 use native.Mathlib.Decide.{dec_lt}
 use native.Mathlib.Omega.{arith}
 use lib.ListN.{length, get_or-eq_default}
-use Rattle.figures.specs.Figures.{noFigure, Has}
+use Rattle.figures.specs.Figures.{no_figure, Has}
 
-pub room-for-all : (xs : List ℕ) (n : ℕ) → ((A : ℕ) → A < n → Has xs A) → n ≤ length xs
-room-for-all xs n all = go (dec_lt (length xs) n)
+pub room_for_all : (xs : List ℕ) (n : ℕ) → ((A : ℕ) → A < n → Has xs A) → n ≤ length xs
+room_for_all xs n all = go (dec_lt (length xs) n)
   where
     go : Dec (length xs < n) → n ≤ length xs
-    go (yes past) = absurd (all (length xs) past (get_or-eq_default xs noFigure {n = length xs} (omega arith)))
+    go (yes past) = absurd (all (length xs) past (get_or-eq_default xs no_figure {n = length xs} (omega arith)))
     go (no room) = omega arith

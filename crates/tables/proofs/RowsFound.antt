@@ -15,26 +15,26 @@ use Rattle.grammar.specs.Tree.{Tree}
 use Rattle.grammar.specs.Least.{Least}
 use Rattle.grammar.specs.Certificates.{word_size}
 use Rattle.grammar.specs.Refusals.{Lowest, NoTree, AllTrees, Unreached, AllReached, Oversize, AllFit}
-use Rattle.grammar.proofs.LayoutExact.{rule-at}
-use Rattle.grammar.proofs.RuleNumbers.{rule-number}
-use Rattle.grammar.proofs.Dead.{open-reached}
-use Rattle.grammar.specs.Caps.{OfOpen, CappedFigures, stoppedTotal, ContextsAtRest, ceiling, measureCap}
-use Rattle.grammar.proofs.CappedLeasts.{certificate-trees, capped-certificate}
-use Rattle.grammar.proofs.LeastsExist.{leasts-exist}
-use Rattle.grammar.proofs.Unique.{least-unique}
-use Rattle.grammar.proofs.CappedContexts.{certificate-reached, start-figure}
-use Rattle.grammar.proofs.CappedTotals.{oversize-exact, fits-exact}
-use Rattle.grammar.proofs.AtRest.{rest-context-certificate, no-figure-unreached}
+use Rattle.grammar.proofs.LayoutExact.{rule_at}
+use Rattle.grammar.proofs.RuleNumbers.{rule_number}
+use Rattle.grammar.proofs.Dead.{open_reached}
+use Rattle.grammar.specs.Caps.{OfOpen, CappedFigures, stopped_total, ContextsAtRest, ceiling, measure_cap}
+use Rattle.grammar.proofs.CappedLeasts.{certificate_trees, capped_certificate}
+use Rattle.grammar.proofs.LeastsExist.{leasts_exist}
+use Rattle.grammar.proofs.Unique.{least_unique}
+use Rattle.grammar.proofs.CappedContexts.{certificate_reached, start_figure}
+use Rattle.grammar.proofs.CappedTotals.{oversize_exact, fits_exact}
+use Rattle.grammar.proofs.AtRest.{rest_context_certificate, no_figure_unreached}
 use Rattle.figures.specs.declared.Found.TheVariants.{At, Nothing}
-use Rattle.figures.specs.Figures.{noFigure, figure, Has, capped, FirstAbove, found_at, found_none}
+use Rattle.figures.specs.Figures.{no_figure, figure, Has, capped, FirstAbove, found_at, found_none}
 use Rattle.tables.specs.ContextFigures.{LeastsDone, SizesOf, ContextsSound, ContextsRest, TotalsOf, NoFigures}
 use Rattle.tables.specs.Rows.{ContextsDone}
-use Rattle.figures.proofs.FiguresFall.{figure-is}
-use Rattle.leasts.specs.Promise.{LeastFigure, of_tree, no-tree, SizeFigure, of-trees, no-trees, FiguresOf}
+use Rattle.figures.proofs.FiguresFall.{figure_is}
+use Rattle.leasts.specs.Promise.{LeastFigure, of_tree, no_tree, SizeFigure, of_trees, no_trees, FiguresOf}
 
 -- the lowest with a property, where none below has it
-lowest-where : {P : ℕ → Type 0} {a : ℕ} → P a → ((m : ℕ) → m < a → ¬ P m) → Lowest P a
-lowest-where {P} {a} p none = record { such = p; lowest = λ m q. go m q (dec_lt m a) }
+lowest_where : {P : ℕ → Type 0} {a : ℕ} → P a → ((m : ℕ) → m < a → ¬ P m) → Lowest P a
+lowest_where {P} {a} p none = record { such = p; lowest = λ m q. go m q (dec_lt m a) }
   where
     go : (m : ℕ) → P m → Dec (m < a) → a ≤ m
     go m q (yes l) = absurd (none m l q)
@@ -42,57 +42,57 @@ lowest-where {P} {a} p none = record { such = p; lowest = λ m q. go m q (dec_lt
 
 module _ (g : Grammar) where
   -- AT THE OUTSET the start alone has a context, which is 0
-  pub contexts-begin : (xs : List ℕ) → g.N ≤ 128 → g.start < g.N → NoFigures xs → ContextsSound g (set xs g.start 0)
-  contexts-begin xs few within e = record { start = at-start; of-open = λ A lt h. go A lt h (ℕ_discrete A g.start) }
+  pub contexts_begin : (xs : List ℕ) → g.N ≤ 128 → g.start < g.N → NoFigures xs → ContextsSound g (set xs g.start 0)
+  contexts_begin xs few within e = record { start = at_start; of_open = λ A lt h. go A lt h (ℕ_discrete A g.start) }
     where
       long : length xs ≡ 128
       long = ap length e ∙ length-replicate {A = ℕ} 128 65535
 
-      at-start : figure (set xs g.start 0) g.start ≡ 0
-      at-start = get_or-set_same xs g.start 0 noFigure (omega (arith, long))
+      at_start : figure (set xs g.start 0) g.start ≡ 0
+      at_start = get_or-set_same xs g.start 0 no_figure (omega (arith, long))
 
       go : (A : ℕ) → A < g.N → Has (set xs g.start 0) A → Dec (A ≡ g.start) →
-          OfOpen measure measureCap g A (figure (set xs g.start 0) A)
-      go A lt h (yes q) = rw (q, at-start) (start-figure measure measureCap g)
+          OfOpen measure measure_cap g A (figure (set xs g.start 0) A)
+      go A lt h (yes q) = rw (q, at_start) (start_figure measure measure_cap g)
       go A lt h (no d) =
-          let kept = get_or-set_other xs g.start A 0 noFigure d in
-          let none = ap (λ (l : List ℕ). figure l A) e ∙ get_or-replicate 128 A noFigure noFigure (omega arith) in
+          let kept = get_or-set_other xs g.start A 0 no_figure d in
+          let none = ap (λ (l : List ℕ). figure l A) e ∙ get_or-replicate 128 A no_figure no_figure (omega arith) in
           absurd (h (kept ∙ none))
 
   -- 5
-  tree-below : {A x : ℕ} → LeastFigure g A x → x ≤ ceiling → Tree g A
-  tree-below (of_tree least) l = least.tree
-  tree-below (no-tree none) l = absurd (omega arith)
+  tree_below : {A x : ℕ} → LeastFigure g A x → x ≤ ceiling → Tree g A
+  tree_below (of_tree least) l = least.tree
+  tree_below (no_tree none) l = absurd (omega arith)
 
-  no-tree-above : {A x : ℕ} → LeastFigure g A x → ceiling < x → ¬ Tree g A
-  no-tree-above (of_tree least) l = absurd (omega arith)
-  no-tree-above (no-tree none) l = none
+  no_tree_above : {A x : ℕ} → LeastFigure g A x → ceiling < x → ¬ Tree g A
+  no_tree_above (of_tree least) l = absurd (omega arith)
+  no_tree_above (no_tree none) l = none
 
   -- the figure is the cut of the least
   cut_of : {A x y : ℕ} → LeastFigure g A x → Least measure g A y → x ≡ capped y
-  cut_of (of_tree least) other = ap capped (least-unique {c = measure} least other)
-  cut_of (no-tree none) other = absurd (none other.tree)
+  cut_of (of_tree least) other = ap capped (least_unique {c = measure} least other)
+  cut_of (no_tree none) other = absurd (none other.tree)
 
   size_is : {vs w : List ℕ} {x : ℕ} → SizeFigure g vs w x → AllTrees g → x ≡ 1 + word_size measure g (figure vs) w
-  size_is (of-trees t) all = refl
-  size_is (no-trees none) all = absurd (none (λ B m l. all B l))
+  size_is (of_trees t) all = refl
+  size_is (no_trees none) all = absurd (none (λ B m l. all B l))
 
   module _ (vs sizes : List ℕ) (found : FiguresOf g vs sizes) where
-    pub row-5-found : (a : ℕ) → FirstAbove vs g.N ceiling (At a) → Lowest (NoTree g) a
-    row-5-found a (found_at lt above before) =
-        lowest-where
-        (record { nonterminal = lt; none = no-tree-above (found.least a lt) above })
-        (λ m l z. z.none (tree-below (found.least m (omega arith)) (before m l)))
+    pub row_5_found : (a : ℕ) → FirstAbove vs g.N ceiling (At a) → Lowest (NoTree g) a
+    row_5_found a (found_at lt above before) =
+        lowest_where
+        (record { nonterminal = lt; none = no_tree_above (found.least a lt) above })
+        (λ m l z. z.none (tree_below (found.least m (omega arith)) (before m l)))
 
     -- 5 is passed
-    trees-found : FirstAbove vs g.N ceiling Nothing → AllTrees g
-    trees-found (found_none all) A lt = tree-below (found.least A lt) (all A lt)
+    trees_found : FirstAbove vs g.N ceiling Nothing → AllTrees g
+    trees_found (found_none all) A lt = tree_below (found.least A lt) (all A lt)
 
     pub leasts-found : FirstAbove vs g.N ceiling Nothing → LeastsDone g vs
     leasts-found search =
-        let (x, leasts) = leasts-exist measure g (trees-found search) in
+        let (x, leasts) = leasts_exist measure g (trees_found search) in
         record {
-          certificate = (capped-certificate measure measureCap g x leasts (figure vs)).1
+          certificate = (capped_certificate measure measure_cap g x leasts (figure vs)).1
               (λ A lt. cut_of (found.least A lt) (leasts A lt));
           all = λ A lt. low search A lt;
         }
@@ -101,78 +101,78 @@ module _ (g : Grammar) where
         low (found_none all) A lt e = omega (arith, all A lt)
 
     pub sizes-found : FirstAbove vs g.N ceiling Nothing → SizesOf g vs sizes
-    sizes-found search k A w r = size_is (found.size k A w r) (trees-found search)
+    sizes-found search k A w r = size_is (found.size k A w r) (trees_found search)
 
   module _ (vs : List ℕ) (done : LeastsDone g vs) where
-    pub all-trees : AllTrees g
-    all-trees = certificate-trees measure measureCap g (figure vs) done.certificate
+    pub all_trees : AllTrees g
+    all_trees = certificate_trees measure measure_cap g (figure vs) done.certificate
 
     -- 6
     module _ (us : List ℕ) where
-      contexts-at-rest : ContextsRest g vs us → ContextsAtRest measure measureCap g (figure vs) (figure us) (Has us)
-      contexts-at-rest rest = record {
+      contexts_at_rest : ContextsRest g vs us → ContextsAtRest measure measure_cap g (figure vs) (figure us) (Has us)
+      contexts_at_rest rest = record {
         start = λ e. omega (arith, rest.sound.start);
-        at-start = rest.sound.start;
-        figure = rest.sound.of-open;
+        at_start = rest.sound.start;
+        figure = rest.sound.of_open;
         quiet = λ k B w i A r h p lt.
-            let q = rest.quiet k (rule-number r) B w r h i A p lt in
+            let q = rest.quiet k (rule_number r) B w r h i A p lt in
             (λ e. omega arith, q);
       }
 
-      pub row-6-found : ContextsRest g vs us → (a : ℕ) → FirstAbove us g.N ceiling (At a) → Lowest (Unreached g) a
-      row-6-found rest a (found_at lt above before) =
-          let none : ¬ Has us a = λ h. let (t, e) = rest.sound.of-open a lt h in omega arith in
-          lowest-where
-          (no-figure-unreached measure measureCap g (figure vs) (figure us) (Has us) all-trees (contexts-at-rest rest) a lt none)
+      pub row_6_found : ContextsRest g vs us → (a : ℕ) → FirstAbove us g.N ceiling (At a) → Lowest (Unreached g) a
+      row_6_found rest a (found_at lt above before) =
+          let none : ¬ Has us a = λ h. let (t, e) = rest.sound.of_open a lt h in omega arith in
+          lowest_where
+          (no_figure_unreached measure measure_cap g (figure vs) (figure us) (Has us) all_trees (contexts_at_rest rest) a lt none)
           (λ m l z. let b = before m l in
-          z.never (open-reached (rest.sound.of-open m (omega arith) (λ e. omega arith)).0))
+          z.never (open_reached (rest.sound.of_open m (omega arith) (λ e. omega arith)).0))
 
-      pub contexts-found : ContextsRest g vs us → FirstAbove us g.N ceiling Nothing → ContextsDone g vs us
-      contexts-found rest (found_none all) = record { rest = rest; all = λ A lt e. omega (arith, all A lt) }
+      pub contexts_found : ContextsRest g vs us → FirstAbove us g.N ceiling Nothing → ContextsDone g vs us
+      contexts_found rest (found_none all) = record { rest = rest; all = λ A lt e. omega (arith, all A lt) }
 
       module _ (placed : ContextsDone g vs us) where
-        pub figures : CappedFigures measure measureCap g (figure vs) (figure us)
+        pub figures : CappedFigures measure measure_cap g (figure vs) (figure us)
         figures = record {
           leasts = done.certificate;
-          contexts = rest-context-certificate measure measureCap g (figure vs) (figure us) (Has us)
-              (contexts-at-rest placed.rest) placed.all;
+          contexts = rest_context_certificate measure measure_cap g (figure vs) (figure us) (Has us)
+              (contexts_at_rest placed.rest) placed.all;
         }
 
         -- 6 is passed
-        pub all-reached : AllReached g
-        all-reached = certificate-reached measure measureCap g (figure vs) (figure us) figures.contexts
+        pub all_reached : AllReached g
+        all_reached = certificate_reached measure measure_cap g (figure vs) (figure us) figures.contexts
 
         -- 7
         module _ (sizes totals : List ℕ) (of-sizes : SizesOf g vs sizes) (of-totals : TotalsOf g us sizes totals)
             (long : R g ≤ length totals) (ok : InBounds g) where
-          total-is : {k A : ℕ} {w : List ℕ} → RuleAt g k A w → figure totals k ≡ stoppedTotal g (figure vs) (figure us) A w
-          total-is {k} {A} {w} r =
-              let l = rule-number r in
+          total_is : {k A : ℕ} {w : List ℕ} → RuleAt g k A w → figure totals k ≡ stopped_total g (figure vs) (figure us) A w
+          total_is {k} {A} {w} r =
+              let l = rule_number r in
               let e = of-totals k A w r in
               let s = of-sizes k A w r in
-              sym (figure-is totals k 0 (omega arith)) ∙ e ∙ ap (λ (x : ℕ). capped (figure us A + x)) s
+              sym (figure_is totals k 0 (omega arith)) ∙ e ∙ ap (λ (x : ℕ). capped (figure us A + x)) s
 
-          pub row-7-found : (a : ℕ) → FirstAbove totals (R g) limit (At a) → Lowest (Oversize limit g) a
-          row-7-found a (found_at lt above before) = lowest-where over-it below-it
+          pub row_7_found : (a : ℕ) → FirstAbove totals (R g) limit (At a) → Lowest (Oversize limit g) a
+          row_7_found a (found_at lt above before) = lowest_where over_it below_it
             where
-              over-it : Oversize limit g a
-              over-it =
-                  let (A, w, r) = rule-at ok a lt in
-                  let e = total-is r in
-                  (oversize-exact limit (omega arith) g (figure vs) (figure us) figures r).0 (omega arith)
+              over_it : Oversize limit g a
+              over_it =
+                  let (A, w, r) = rule_at ok a lt in
+                  let e = total_is r in
+                  (oversize_exact limit (omega arith) g (figure vs) (figure us) figures r).0 (omega arith)
 
-              below-it : (m : ℕ) → m < a → ¬ Oversize limit g m
-              below-it m l z =
-                  let (A, w, r) = rule-at ok m (omega arith) in
-                  let e = total-is r in
+              below_it : (m : ℕ) → m < a → ¬ Oversize limit g m
+              below_it m l z =
+                  let (A, w, r) = rule_at ok m (omega arith) in
+                  let e = total_is r in
                   let b = before m l in
-                  let o = (oversize-exact limit (omega arith) g (figure vs) (figure us) figures r).1 z in
+                  let o = (oversize_exact limit (omega arith) g (figure vs) (figure us) figures r).1 z in
                   omega arith
 
           -- 7 is passed
           pub all_fit : FirstAbove totals (R g) limit Nothing → AllFit limit g
           all_fit (found_none all) r l =
-              let (A, w, rule) = rule-at ok r l in
-              let e = total-is rule in
+              let (A, w, rule) = rule_at ok r l in
+              let e = total_is rule in
               let b = all r l in
-              (fits-exact limit (omega arith) g (figure vs) (figure us) figures rule).0 (omega arith)
+              (fits_exact limit (omega arith) g (figure vs) (figure us) figures rule).0 (omega arith)

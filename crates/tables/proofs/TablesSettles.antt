@@ -13,15 +13,15 @@ use Rattle.answers.specs.Buffers.{over}
 use Rattle.grammar.specs.Words.{Grammar, InBounds}
 use Rattle.grammar.specs.Refusals.{Accepted}
 use Rattle.grammar.specs.Terms.{limit}
-use Rattle.entries.specs.Table.{tableLength, IsTable}
+use Rattle.entries.specs.Table.{table_length, IsTable}
 use Rattle.tables.specs.Answers.{answer, done, of_words, too_short}
-use Rattle.tables.specs.Promise.{Tables, row-4-7, row-3, row_done}
+use Rattle.tables.specs.Promise.{Tables, row_4_7, row_3, row_done}
 use Rattle.tables.specs.declared.TableAnswer.{TableAnswer}
-use Rattle.answers.proofs.Gates.{Gate, stop, go, Settles, gate-settles}
-use Rattle.grammar.proofs.FirstRows.{OfAccepted, refused, accepted, accepted-settle}
-use Rattle.grammar.proofs.FirstRowsMet.{accepted-met}
-use Rattle.entries.proofs.TableIsOne.{table-unique}
-use Rattle.entries.proofs.TableExists.{table-exists}
+use Rattle.answers.proofs.Gates.{Gate, stop, go, Settles, gate_settles}
+use Rattle.grammar.proofs.FirstRows.{OfAccepted, refused, accepted, accepted_settle}
+use Rattle.grammar.proofs.FirstRowsMet.{accepted_met}
+use Rattle.entries.proofs.TableIsOne.{table_unique}
+use Rattle.entries.proofs.TableExists.{table_exists}
 
 module _ (words before : List ℕ) where
   -- the answer and the buffer afterwards
@@ -32,45 +32,45 @@ module _ (words before : List ℕ) where
   refuse x = (answer (of_words x), before)
 
   data Whole (g : Grammar) : Out → Type 0 where
-    whole : {table : List ℕ} → IsTable g table → Whole g (answer (done (tableLength g)), over table before)
+    whole : {table : List ℕ} → IsTable g table → Whole g (answer (done (table_length g)), over table before)
 
   abbrev Rows : Grammar → Out → Type 0
   Rows g =
-      Gate (λ (n : ℕ). (n ≡ tableLength g) × (length before < n)) (tableLength g ≤ length before)
+      Gate (λ (n : ℕ). (n ≡ table_length g) × (length before < n)) (table_length g ≤ length before)
       (λ n. (answer (too_short n), before)) (Whole g)
 
-  whole-settles : (g : Grammar) → Settles (Whole g)
-  whole-settles g _ _ (whole a) (whole b) = ap (λ t. (answer (done (tableLength g)), over t before)) (table-unique a b)
+  whole_settles : (g : Grammar) → Settles (Whole g)
+  whole_settles g _ _ (whole a) (whole b) = ap (λ t. (answer (done (table_length g)), over t before)) (table_unique a b)
 
-  rows-settle : (g : Grammar) → Settles (Rows g)
-  rows-settle g =
-      gate-settles (λ n. (answer (too_short n), before)) (λ x y a b. a.0 ∙ sym b.0) (λ x a b. omega (arith, a.0, a.1))
-      (whole-settles g)
+  rows_settle : (g : Grammar) → Settles (Rows g)
+  rows_settle g =
+      gate_settles (λ n. (answer (too_short n), before)) (λ x y a b. a.0 ∙ sym b.0) (λ x a b. omega (arith, a.0, a.1))
+      (whole_settles g)
 
   rows : {a : TableAnswer} {after : List ℕ} → Tables words before a after → OfAccepted limit words refuse Rows (a, after)
-  rows (row-4-7 x) = refused x
-  rows (row-3 e a l) = accepted e a (stop (refl, l))
+  rows (row_4_7 x) = refused x
+  rows (row_3 e a l) = accepted e a (stop (refl, l))
   rows (row_done e a l table) = accepted e a (go l (whole table))
 
   -- AT MOST ONE
-  pub tables-settles : {a a' : TableAnswer} {after after' : List ℕ} →
+  pub tables_settles : {a a' : TableAnswer} {after after' : List ℕ} →
       Tables words before a after → Tables words before a' after' → (a ≡ a') × (after ≡ after')
-  tables-settles {a} {a'} {after} {after'} x y =
-      let e = accepted-settle limit words refuse Rows rows-settle (a, after) (a', after') (rows x) (rows y) in
+  tables_settles {a} {a'} {after} {after'} x y =
+      let e = accepted_settle limit words refuse Rows rows_settle (a, after) (a', after') (rows x) (rows y) in
       (ap (λ (o : Out). o.0) e, ap (λ (o : Out). o.1) e)
 
   row : {o : Out} → OfAccepted limit words refuse Rows o → Tables words before o.0 o.1
-  row (refused x) = row-4-7 x
-  row (accepted e a (stop (same, l))) = rw same (row-3 e a (rw same at l))
+  row (refused x) = row_4_7 x
+  row (accepted e a (stop (same, l))) = rw same (row_3 e a (rw same at l))
   row (accepted e a (go l (whole table))) = row_done e a l table
 
-  rows-met : (g : Grammar) → InBounds g → Accepted limit g → (o : Out) × Rows g o
-  rows-met g ok a = room? (dec_lt (length before) (tableLength g))
+  rows_met : (g : Grammar) → InBounds g → Accepted limit g → (o : Out) × Rows g o
+  rows_met g ok a = room? (dec_lt (length before) (table_length g))
     where
-      room? : Dec (length before < tableLength g) → (o : Out) × Rows g o
+      room? : Dec (length before < table_length g) → (o : Out) × Rows g o
       room? (yes l) = (_, stop (refl, l))
-      room? (no l) = let (table, is) = table-exists g ok a.trees a.reached in (_, go (omega arith) (whole is))
+      room? (no l) = let (table, is) = table_exists g ok a.trees a.reached in (_, go (omega arith) (whole is))
 
   -- AT LEAST ONE
-  pub tables-met : (a : TableAnswer) × (after : List ℕ) × Tables words before a after
-  tables-met = let (o, z) = accepted-met limit words refuse Rows rows-met in (o.0, o.1, row z)
+  pub tables_met : (a : TableAnswer) × (after : List ℕ) × Tables words before a after
+  tables_met = let (o, z) = accepted_met limit words refuse Rows rows_met in (o.0, o.1, row z)

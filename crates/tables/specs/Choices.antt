@@ -4,19 +4,19 @@
 use Rattle.std.specs.Prelude.{ℕ, ◌+◌, ◌*◌, ◌≤◌, ◌<◌, ◌≡◌, List, length, get_or, set, replicate}
 use Rattle.grammar.specs.Words.{Grammar, RuleAt, InBounds}
 use Rattle.grammar.specs.Certificates.{Holds}
-use Rattle.entries.specs.Table.{noChoice}
+use Rattle.entries.specs.Table.{no_choice}
 use Rattle.figures.specs.Figures.{figure}
 
 abbrev pub choice : List ℕ → ℕ → ℕ
-choice xs A = get_or xs A noChoice
+choice xs A = get_or xs A no_choice
 
 -- at the outset no nonterminal has one, and the array has room for every nonterminal
 abbrev pub NoChoices : List ℕ → Type 0
-NoChoices xs = xs ≡ replicate 128 noChoice
+NoChoices xs = xs ≡ replicate 128 no_choice
 
--- The first number below n with a property, or `noChoice` where none has it.
+-- The first number below n with a property, or `no_choice` where none has it.
 pub data FirstBelow (P : ℕ → Type 0) (n : ℕ) : ℕ → Type 0 where
-  none_has : ((k : ℕ) → k < n → ¬ P k) → FirstBelow P n noChoice
+  none_has : ((k : ℕ) → k < n → ¬ P k) → FirstBelow P n no_choice
   first : {k : ℕ} → k < n → P k → ((j : ℕ) → j < k → ¬ P j) → FirstBelow P n k
 
 -- rule k is one of A, and its size is A's least
@@ -44,8 +44,8 @@ LeadsOf g vs us totals leads n = (A : ℕ) → A < g.row.N → FirstBelow (Place
 
 -- a number noted where there is none yet, and left where there is one, or no place for it
 pub data Noted (before : List ℕ) (a number : ℕ) : List ℕ → Type 0 where
-  noted : a < length before → choice before a ≡ noChoice → Noted before a number (set before a number)
-  kept : (a < length before → ¬ (choice before a ≡ noChoice)) → Noted before a number before
+  noted : a < length before → choice before a ≡ no_choice → Noted before a number (set before a number)
+  kept : (a < length before → ¬ (choice before a ≡ no_choice)) → Noted before a number before
 
 -- a number noted so where something holds, and nothing done where it does not
 pub data NotedWhere (P : Type 0) (before : List ℕ) (a number : ℕ) : List ℕ → Type 0 where

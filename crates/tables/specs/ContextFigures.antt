@@ -4,13 +4,13 @@
 use Rattle.std.specs.Prelude.{ℕ, ◌+◌, ◌≤◌, ◌<◌, ◌≡◌, List, get_or, replicate}
 use Rattle.grammar.specs.Words.{Grammar, RuleAt, R}
 use Rattle.grammar.specs.Terms.{measure}
-use Rattle.grammar.specs.Certificates.{word_size, Holds, othersSize}
-use Rattle.grammar.specs.Caps.{CappedCertificate, OfOpen, measureCap}
-use Rattle.figures.specs.Figures.{noFigure, figure, Has, capped}
+use Rattle.grammar.specs.Certificates.{word_size, Holds, others_size}
+use Rattle.grammar.specs.Caps.{CappedCertificate, OfOpen, measure_cap}
+use Rattle.figures.specs.Figures.{no_figure, figure, Has, capped}
 
 -- LEASTS: every nonterminal has one, and they are the cuts of the true ones
 pub record LeastsDone (g : Grammar) (vs : List ℕ) : Type 0 where
-  pub certificate : CappedCertificate measure measureCap g (figure vs)
+  pub certificate : CappedCertificate measure measure_cap g (figure vs)
   pub all : (A : ℕ) → A < g.N → Has vs A
 
 -- the sizes of the rules by the leasts vs
@@ -20,13 +20,13 @@ SizesOf g vs sizes = (k A : ℕ) (w : List ℕ) → RuleAt g k A w → get_or si
 -- CONTEXTS, over leasts vs: the start's is 0, and each figure is the cut of what some open tree costs
 pub record ContextsSound (g : Grammar) (us : List ℕ) : Type 0 where
   pub start : figure us g.start ≡ 0
-  pub of-open : (A : ℕ) → A < g.N → Has us A → OfOpen measure measureCap g A (figure us A)
+  pub of_open : (A : ℕ) → A < g.N → Has us A → OfOpen measure measure_cap g A (figure us A)
 
 -- a rule of a nonterminal that has a figure does not lower the figure of what it holds at any place
 abbrev pub ContextQuiet : Grammar → List ℕ → List ℕ → ℕ → Type 0
 ContextQuiet g vs us k =
     (B : ℕ) (w : List ℕ) → RuleAt g k B w → Has us B → (i A : ℕ) → Holds w i A → A < g.N →
-    figure us A ≤ capped (figure us B + (1 + othersSize measure g (figure vs) w i))
+    figure us A ≤ capped (figure us B + (1 + others_size measure g (figure vs) w i))
 
 pub record ContextsRest (g : Grammar) (vs us : List ℕ) : Type 0 where
   pub sound : ContextsSound g us
@@ -38,4 +38,4 @@ TotalsOf g us sizes totals = (k A : ℕ) (w : List ℕ) → RuleAt g k A w → g
 
 -- at the outset no nonterminal has a figure, and the array has room for every nonterminal
 abbrev pub NoFigures : List ℕ → Type 0
-NoFigures xs = xs ≡ replicate 128 noFigure
+NoFigures xs = xs ≡ replicate 128 no_figure

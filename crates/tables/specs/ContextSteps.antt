@@ -3,8 +3,8 @@
 use Rattle.std.specs.Prelude.{ℕ, ◌+◌, ◌-◌, ◌≤◌, ◌<◌, ◌≡◌, ◌⊎◌, List, [], ◌∷◌, length, set}
 use Rattle.grammar.specs.Words.{Grammar, RuleAt}
 use Rattle.grammar.specs.Terms.{measure}
-use Rattle.grammar.specs.Certificates.{Holds, othersSize}
-use Rattle.figures.specs.Figures.{noFigure, figure, Has, capped, Lowered}
+use Rattle.grammar.specs.Certificates.{Holds, others_size}
+use Rattle.figures.specs.Figures.{no_figure, figure, Has, capped, Lowered}
 use Rattle.tables.specs.ContextFigures.{LeastsDone, SizesOf, ContextsSound, ContextQuiet}
 use Rattle.layout.specs.View.{View}
 
@@ -30,13 +30,13 @@ pub data ContextStep (n size : ℕ) (vs : List ℕ) (k B : ℕ) (w us seen : Lis
 
 -- A rule B ⟶ w that was tried with this context of B lowers no context until that of B falls; and B has one.
 pub record Tried (g : Grammar) (vs us : List ℕ) (B : ℕ) (w : List ℕ) (context : ℕ) : Type 0 where
-  pub has : figure us B < noFigure
-  pub low : (i A : ℕ) → Holds w i A → A < g.N → figure us A ≤ capped (context + (1 + othersSize measure g (figure vs) w i))
+  pub has : figure us B < no_figure
+  pub low : (i A : ℕ) → Holds w i A → A < g.N → figure us A ≤ capped (context + (1 + others_size measure g (figure vs) w i))
 
 -- what is known of the contexts, and of what is seen
 pub record Stands (g : Grammar) (vs us seen : List ℕ) : Type 0 where
   pub sound : ContextsSound g us
-  pub of-seen : (k B : ℕ) (w : List ℕ) → RuleAt g k B w → Has seen k → Tried g vs us B w (figure seen k)
+  pub of_seen : (k B : ℕ) (w : List ℕ) → RuleAt g k B w → Has seen k → Tried g vs us B w (figure seen k)
 
 -- The turn of rule k, and a round over the rules: they keep what is known, and where nothing fell no context changed, and the
 -- rule is quiet, or every rule.

@@ -2,7 +2,7 @@
 -- it is found out: some declared nonterminal stands in no complete tree of the start. That `tables` answers 5 or 6 to exactly the
 -- dead grammars is a law (proofs/DeadGrammars). Assumes nothing.
 use Rattle.std.specs.Prelude.{ℕ, ◌<◌, ◌≡◌, ◌⊎◌}
-use Rattle.answers.specs.GrammarRefusals.{no-tree, unreached}
+use Rattle.answers.specs.GrammarRefusals.{no_tree, unreached}
 use Rattle.grammar.specs.Words.{Grammar}
 use Rattle.grammar.specs.Tree.{Tree, StandsIn}
 use Rattle.tables.specs.Answers.{answer, of_words}
@@ -15,4 +15,4 @@ pub record Dead (g : Grammar) : Type 0 where
 
 -- the answer is 5, or 6
 abbrev pub SaysDead : TableAnswer → Type 0
-SaysDead a = (A : ℕ) × ((a ≡ answer (of_words (no-tree A))) ⊎ (a ≡ answer (of_words (unreached A))))
+SaysDead a = (A : ℕ) × ((a ≡ answer (of_words (no_tree A))) ⊎ (a ≡ answer (of_words (unreached A))))

@@ -8,18 +8,18 @@ use Rattle.grammar.specs.Words.{Grammar, layout, reads}
 use Rattle.grammar.specs.Refusals.{Accepted}
 use Rattle.grammar.specs.Rows.{GrammarRefused}
 use Rattle.grammar.specs.Terms.{limit}
-use Rattle.entries.specs.Table.{tableLength, IsTable}
+use Rattle.entries.specs.Table.{table_length, IsTable}
 use Rattle.tables.specs.Answers.{answer, done, of_words, too_short}
 use Rattle.tables.specs.declared.TableAnswer.{TableAnswer}
 
 pub data Tables (words before : List ℕ) : TableAnswer → List ℕ → Type 0 where
   -- 4, 5, 6 and 7
-  row-4-7 : {x : GrammarRefusal} → GrammarRefused limit words x →
+  row_4_7 : {x : GrammarRefusal} → GrammarRefused limit words x →
       Tables words before (answer (of_words x)) before
   -- "table buffer too short", at the "length needed"
-  row-3 : {g : Grammar} → layout words ≡ reads g → Accepted limit g → length before < tableLength g →
-      Tables words before (answer (too_short (tableLength g))) before
+  row_3 : {g : Grammar} → layout words ≡ reads g → Accepted limit g → length before < table_length g →
+      Tables words before (answer (too_short (table_length g))) before
   -- "Done carries the length written."
-  row_done : {g : Grammar} {table : List ℕ} → layout words ≡ reads g → Accepted limit g → tableLength g ≤ length before →
+  row_done : {g : Grammar} {table : List ℕ} → layout words ≡ reads g → Accepted limit g → table_length g ≤ length before →
       IsTable g table →
-      Tables words before (answer (done (tableLength g))) (over table before)
+      Tables words before (answer (done (table_length g))) (over table before)

@@ -2,7 +2,7 @@
 // the choices and the words.
 ghost use Rattle.std.specs.Prelude.{◌≡◌, ◌≤◌, length};
 ghost use Rattle.tables.specs.Promise.{Tables};
-ghost use Rattle.entries.specs.Table.{lengthFor};
+ghost use Rattle.entries.specs.Table.{length_for};
 ghost use Rattle.tables.specs.Rows.{Measured, Grown, Placed, Finished};
 
 use crate::TableAnswer;
@@ -104,7 +104,7 @@ fn finish(
     table: &mut [u16],
 )
     requires placed { Placed words.now places.now n rules leasts.now sizes.now contexts.now }
-    requires rules_in_bounds { lengthFor n rules ≤ length table.old }
+    requires rules_in_bounds { length_for n rules ≤ length table.old }
     ensures { Finished words.now places.now n rules leasts.now sizes.now
         contexts.now totals.now table.old table.new }
 {

@@ -3,7 +3,7 @@ use Prim.Native.Nat.{ℕ, ◌+◌, ◌*◌}
 use mathlib.Core.Path.{◌≡◌}
 use mathlib.Core.List.{List}
 use lib.ListN.{set}
-use Rattle.entries.specs.Writing.{withEntries}
+use Rattle.entries.specs.Writing.{with_entries}
 use Rattle.entries.specs.declared.Entries.{Entries}
 use borrow.Author.Rules.{rules}
 use Rattle.entries.proofs.write.Statement.{statement}
@@ -58,7 +58,7 @@ returns c =
   where
     five : (e : Entries) (t : List ℕ) {n m : ℕ} {u v w x y : List ℕ} → n ≡ m → u ≡ set t (5 * n) e.least → v ≡ set u (5 * n + 1) e.chosen →
         w ≡ set v (5 * n + 2) e.context → x ≡ set w (5 * n + 3) e.rule → y ≡ set x (5 * n + 4) e.place →
-        y ≡ withEntries t m e
+        y ≡ with_entries t m e
     five e t same f g h i j = rw (j, i, h, g, f, same)
 
 pub write_spec : {M : Type 1} → statement M

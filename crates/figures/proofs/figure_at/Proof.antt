@@ -3,8 +3,8 @@ use mathlib.Core.Path.{sym}
 use native.Mathlib.Omega.{arith}
 use borrow.Author.Rules.{rules}
 use lib.ListN.{get_or-eq_default}
-use Rattle.figures.specs.Figures.{noFigure}
-use Rattle.figures.proofs.FiguresFall.{figure-is}
+use Rattle.figures.specs.Figures.{no_figure}
+use Rattle.figures.proofs.FiguresFall.{figure_is}
 use Rattle.figures.proofs.figure_at.Statement.{statement}
 use Rattle.figures.proofs.figure_at.Tie as tie
 
@@ -23,10 +23,10 @@ cast-result-2 c = search rules
 returns : tie.Need-returns
 returns c =
     let a = c.before.before.args in
-    (figure-is a.figures.now a.a 0 (omega arith), omega (arith, c.shared-slice-known.given a.a))
+    (figure_is a.figures.now a.a 0 (omega arith), omega (arith, c.shared-slice-known.given a.a))
 
 returns-2 : tie.Need-returns-2
-returns-2 c = (sym (get_or-eq_default c.before.args.figures.now noFigure c.if1.false), omega arith)
+returns-2 c = (sym (get_or-eq_default c.before.args.figures.now no_figure c.if1.false), omega arith)
 
 pub figure-at-spec : {M : Type 1} → statement M
 figure-at-spec =

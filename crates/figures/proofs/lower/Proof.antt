@@ -4,7 +4,7 @@ use native.Mathlib.Omega.{arith}
 use borrow.Author.Rules.{rules}
 use lib.ListN.{length}
 use Rattle.figures.specs.Figures.{fell, stayed}
-use Rattle.figures.proofs.FiguresFall.{figure-is}
+use Rattle.figures.proofs.FiguresFall.{figure_is}
 use Rattle.figures.proofs.lower.Statement.{statement}
 use Rattle.figures.proofs.lower.Tie as tie
 
@@ -27,10 +27,10 @@ returns : tie.Need-returns
 returns c =
     let a = c.before.before.before.args in
     let h : a.a < length a.figures.now = omega arith in
-    fell h (omega (arith, figure-is a.figures.now a.a 0 h))
+    fell h (omega (arith, figure_is a.figures.now a.a 0 h))
 
 returns-2 : tie.Need-returns-2
-returns-2 c = let a = c.before.before.before.args in stayed (λ h. omega (arith, figure-is a.figures.now a.a 0 h))
+returns-2 c = let a = c.before.before.before.args in stayed (λ h. omega (arith, figure_is a.figures.now a.a 0 h))
 
 returns-3 : tie.Need-returns-3
 returns-3 c = stayed (λ h. omega arith)

@@ -2,7 +2,7 @@
 use borrow.Author.Rules.{rules}
 use mathlib.Core.Path.{refl}
 use Rattle.handout.specs.Next.{Lent}
-use Rattle.handout.proofs.NextOutcomes.{decided-answer, decided-write}
+use Rattle.handout.proofs.NextOutcomes.{decided_answer, decided_write}
 use Rattle.handout.proofs.next.Statement.{statement}
 use Rattle.handout.proofs.next.Tie as tie
 
@@ -27,7 +27,7 @@ write-out-requires c κs =
     let start = decide.before.before.before.before.before.before.before.before.before.before.before in
     let a = start.args in
     let lent : Lent = record { marks = a.marks.now; tokens = a.sentence.now; rules = a.derivation.now } in
-    decided-write (decide.decide.ensures lent refl refl refl) decision.decision2.given.1
+    decided_write (decide.decide.ensures lent refl refl refl) decision.decision2.given.1
 
 same_length : tie.Need-same-length
 same_length c = search rules
@@ -36,7 +36,7 @@ returns : tie.Need-returns
 returns c =
     let decision = c.before in
     let decide = decision.before.before in
-    decided-answer (decide.decide.ensures _ refl refl refl) decision.decision.given.1
+    decided_answer (decide.decide.ensures _ refl refl refl) decision.decision.given.1
 
 same-length-2 : tie.Need-same-length-2
 same-length-2 c = search rules

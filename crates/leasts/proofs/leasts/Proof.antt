@@ -2,8 +2,8 @@
 use mathlib.Core.Path.{refl}
 use native.Mathlib.Omega.{arith}
 use borrow.Author.Rules.{rules}
-use Rattle.layout.proofs.WordsRead.{begun-of, view-few}
-use Rattle.leasts.proofs.Outcomes.{none-sound, no-grammar, of-grammar}
+use Rattle.layout.proofs.WordsRead.{begun_of, view_few}
+use Rattle.leasts.proofs.Outcomes.{none_sound, no_grammar, of_grammar}
 use Rattle.leasts.proofs.leasts.Statement.{statement}
 use Rattle.leasts.proofs.leasts.Tie as tie
 
@@ -29,22 +29,22 @@ least-rounds-requires : tie.Need-least-rounds-requires
 least-rounds-requires c κs =
     let answer = c.before.before.before.before in
     let read = answer.before.before.before.read in
-    let p = begun-of _ read.ensures.0 read.ensures.1 answer.answer2.given.1 in
-    let few = view-few p.view in
+    let p = begun_of _ read.ensures.0 read.ensures.1 answer.answer2.given.1 in
+    let few = view_few p.view in
     ((omega (arith, few), search rules, search rules), (p.grammar, p.view))
 
 returns : tie.Need-returns
 returns c =
     let read = c.before.before.before.before.read in
-    no-grammar _ read.ensures.0 read.ensures.1 c.before.answer.given.1 refl refl refl
+    no_grammar _ read.ensures.0 read.ensures.1 c.before.answer.given.1 refl refl refl
 
 returns-2 : tie.Need-returns-2
 returns-2 c =
     let answer = c.before.before.before.before.before.before.before in
     let read = answer.before.before.before.read in
     let rounds = c.before.before.least-rounds in
-    of-grammar _ read.ensures.0 read.ensures.1 answer.answer2.given.1 refl (search rules) (search rules)
-    (λ g view. rounds.ensures g view (none-sound g))
+    of_grammar _ read.ensures.0 read.ensures.1 answer.answer2.given.1 refl (search rules) (search rules)
+    (λ g view. rounds.ensures g view (none_sound g))
 
 pub leasts-spec : {M : Type 1} → statement M
 leasts-spec =

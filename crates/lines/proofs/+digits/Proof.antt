@@ -2,7 +2,7 @@
 use Prim.Native.Nat.{ℕ, ◌<◌}
 use native.Mathlib.Omega.{arith}
 use native.Mathlib.Nat.{div-lt_self, mod-lt}
-use Rattle.lines.proofs.DigitsOfNumbers.{decimal-one, decimal-more}
+use Rattle.lines.proofs.DigitsOfNumbers.{decimal_one, decimal_more}
 use Rattle.lines.proofs.WrittenInRoom.{and_then, kept}
 use borrow.Author.Rules.{rules}
 use borrow.Fn.Kinds.{In}
@@ -41,7 +41,7 @@ returns : (t : ℕ) → digits-lts.Need-returns (calls t) (digits-at t) digits.P
 returns t c =
     let a = c.before.before.before.before.before.before.before.args in
     let one = c.before.before.before.before in
-    rw (decimal-one a.n one.before.if1.true, ← one.glyph.ensures) c.before.before.put.ensures
+    rw (decimal_one a.n one.before.if1.true, ← one.glyph.ensures) c.before.before.put.ensures
 
 digits-requires : (t : ℕ) → digits-lts.Need-digits-requires (calls t) (digits-at t) digits.Post
 digits-requires t c κs =
@@ -60,7 +60,7 @@ returns-2 t c =
     let last = c.before.before.before.before in
     let earlier = last.before.before.before in
     let branch = earlier.before.before in
-    rw (decimal-more branch.before.before.args.n branch.if1.false, ← last.glyph2.ensures)
+    rw (decimal_more branch.before.before.args.n branch.if1.false, ← last.glyph2.ensures)
     (and_then earlier.digits.ensures c.before.before.put2.ensures)
 
 same-length-2 : (t : ℕ) → digits-lts.Need-same-length-2 (calls t) (digits-at t) digits.Post

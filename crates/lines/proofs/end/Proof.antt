@@ -1,6 +1,6 @@
 -- `lines::end` meets its contract: its parts are written one after the other. Assumes nothing.
 use borrow.Author.Rules.{rules}
-use Rattle.lines.specs.Lines.{endLine, spaced}
+use Rattle.lines.specs.Lines.{end_line, spaced}
 use Rattle.lines.proofs.WrittenInRoom.{nothing, and_then}
 use Rattle.lines.proofs.end.Statement.{statement}
 use Rattle.lines.proofs.end.Tie as tie
@@ -21,7 +21,7 @@ same_length : tie.Need-same-length
 same_length c = search rules
 
 returns : tie.Need-returns
-unfolding endLine spaced
+unfolding end_line spaced
 returns c =
     let ended = c.before.before in
     let count = ended.before.before.before.before in

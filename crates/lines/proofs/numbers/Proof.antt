@@ -9,7 +9,7 @@ use borrow.Author.Rules.{rules}
 use Rattle.lines.specs.Lines.{spaced}
 use Rattle.lines.specs.Room.{LineWritten}
 use Rattle.lines.proofs.WrittenInRoom.{nothing, kept}
-use Rattle.lines.proofs.NumbersSpaced.{next-number}
+use Rattle.lines.proofs.NumbersSpaced.{next_number}
 use Rattle.lines.proofs.numbers.Statement.{statement}
 use Rattle.lines.proofs.numbers.Tie as tie
 
@@ -46,7 +46,7 @@ loop-again c =
     let turn = c.before.before.before.before.before.before.before in
     let list = turn.before.before.before.args.list.now in
     let number = rw c.before.before.before.before.wide.ensures at c.before.before.number.ensures in
-    (omega arith, next-number list turn.loop.i (omega arith) turn.loop.invariant.1 number)
+    (omega arith, next_number list turn.loop.i (omega arith) turn.loop.invariant.1 number)
 
 same_length : tie.Need-same-length invariant-loop decreases-loop
 same_length c = kept c.before.loop.invariant.1

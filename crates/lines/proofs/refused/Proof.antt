@@ -1,6 +1,6 @@
 -- `lines::refused` meets its contract: its parts are written one after the other. Assumes nothing.
 use borrow.Author.Rules.{rules}
-use Rattle.lines.specs.Lines.{refusedLine, spaced}
+use Rattle.lines.specs.Lines.{refused_line, spaced}
 use Rattle.lines.proofs.WrittenInRoom.{nothing, and_then}
 use Rattle.lines.proofs.refused.Statement.{statement}
 use Rattle.lines.proofs.refused.Tie as tie
@@ -27,7 +27,7 @@ same_length : tie.Need-same-length
 same_length c = search rules
 
 returns : tie.Need-returns
-unfolding refusedLine spaced
+unfolding refused_line spaced
 returns c =
     let ended = c.before.before in
     let place = ended.before.before.before.before in

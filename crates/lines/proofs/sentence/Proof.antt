@@ -1,6 +1,6 @@
 -- `lines::sentence` meets its contract: its parts are written one after the other. Assumes nothing.
 use borrow.Author.Rules.{rules}
-use Rattle.lines.specs.Lines.{sentenceLine}
+use Rattle.lines.specs.Lines.{sentence_line}
 use Rattle.lines.proofs.WrittenInRoom.{and_then}
 use Rattle.lines.proofs.sentence.Statement.{statement}
 use Rattle.lines.proofs.sentence.Tie as tie
@@ -21,7 +21,7 @@ same_length : tie.Need-same-length
 same_length c = search rules
 
 returns : tie.Need-returns
-unfolding sentenceLine
+unfolding sentence_line
 returns c =
     let ended = c.before.before in
     let rules = ended.before.before.before.before in

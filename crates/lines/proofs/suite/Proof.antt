@@ -1,6 +1,6 @@
 -- `lines::suite` meets its contract: its parts are written one after the other. Assumes nothing.
 use borrow.Author.Rules.{rules}
-use Rattle.lines.specs.Lines.{suiteLine, spaced}
+use Rattle.lines.specs.Lines.{suite_line, spaced}
 use Rattle.lines.proofs.WrittenInRoom.{nothing, and_then}
 use Rattle.lines.proofs.suite.Statement.{statement}
 use Rattle.lines.proofs.suite.Tie as tie
@@ -27,7 +27,7 @@ same_length : tie.Need-same-length
 same_length c = search rules
 
 returns : tie.Need-returns
-unfolding suiteLine spaced
+unfolding suite_line spaced
 returns c =
     let ended = c.before.before in
     let third = ended.before.before.before.before in

@@ -5,7 +5,7 @@ use native.Mathlib.Omega.{arith}
 use lib.ListN.{get_or-eq_default}
 use borrow.Author.Count.{below_more}
 use borrow.Author.Rules.{rules}
-use Rattle.marks.specs.Marks.{UsedBelow, at, none-unused}
+use Rattle.marks.specs.Marks.{UsedBelow, at, none_unused}
 use Rattle.marks.proofs.first_unused.Statement.{statement}
 use Rattle.marks.proofs.first_unused.Tie as tie
 
@@ -42,7 +42,7 @@ loop-again : tie.Need-loop-preserved invariant-loop decreases-loop
 loop-again c = (search rules, below_more _ _ c.before.before.before.before.loop.invariant.1 c.if2.false)
 
 returns-3 : tie.Need-returns-3 invariant-loop decreases-loop
-returns-3 c = none-unused (λ k l. c.before.loop.invariant.1 k (omega arith))
+returns-3 c = none_unused (λ k l. c.before.loop.invariant.1 k (omega arith))
 
 pub first-unused-spec : {M : Type 1} → statement M
 first-unused-spec =

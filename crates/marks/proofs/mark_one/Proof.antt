@@ -1,7 +1,7 @@
 -- `marks::mark_one` meets its contract: each way through it is a law of the marking. Assumes nothing.
 use native.Mathlib.Omega.{arith}
 use borrow.Author.Rules.{rules}
-use Rattle.marks.proofs.MarksMet.{one-marked, one_kept}
+use Rattle.marks.proofs.MarksMet.{one_marked, one_kept}
 use Rattle.marks.proofs.mark_one.Statement.{statement}
 use Rattle.marks.proofs.mark_one.Tie as tie
 
@@ -15,7 +15,7 @@ same_length : tie.Need-same-length
 same_length c = search rules
 
 returns : tie.Need-returns
-returns c = one-marked _ _ (search rules) (search rules)
+returns c = one_marked _ _ (search rules) (search rules)
 
 returns-2 : tie.Need-returns-2
 returns-2 c = one_kept _ _ (λ p. c.if2.false p.1)

@@ -6,7 +6,7 @@ use mathlib.Core.Path.{◌≡◌}
 use lib.ListN.{take}
 use borrow.Author.Rules.{rules}
 use Rattle.marks.specs.Marks.{Marked}
-use Rattle.marks.proofs.MarksMet.{marked-none, marked_next, marked_all}
+use Rattle.marks.proofs.MarksMet.{marked_none, marked_next, marked_all}
 use Rattle.marks.proofs.mark_rules.Statement.{statement}
 use Rattle.marks.proofs.mark_rules.Tie as tie
 
@@ -17,7 +17,7 @@ abbrev decreases-loop : tie.decreases-loop
 decreases-loop derivation count marks₀ i₀ marks i = count - i
 
 loop-holds : tie.Need-loop-init invariant-loop decreases-loop
-loop-holds c = (search rules, marked-none _)
+loop-holds c = (search rules, marked_none _)
 
 same_length : tie.Need-same-length invariant-loop decreases-loop
 same_length c = search rules

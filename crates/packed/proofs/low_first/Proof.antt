@@ -24,9 +24,9 @@ word-requires c κs = search rules
 returns : tie.Need-returns
 returns c =
     let at-known = c.before.before.before in
-    let at-start = at-known.before in
-    let file = at-start.args.file.now in
-    let o = at-start.args.o in
+    let at_start = at-known.before in
+    let file = at_start.args.file.now in
+    let o = at_start.args.o in
     let below : get_or file o 0 < 256 = omega (arith, at-known.shared-slice-known.given o) in (
       ap (λ (w : ℕ). w % 256) c.word.ensures ∙ digits_mod (get_or file (o + 1) 0) below,
       ap (λ (w : ℕ). w / 256) c.word.ensures ∙ digits_div (get_or file (o + 1) 0) below,

@@ -8,23 +8,23 @@ use borrow.Author.Rules.{rules}
 use lib.ListN.{length, set, length-set}
 use lib.Seq.{lt-length-set}
 use Rattle.packed.specs.declared.FileAnswer.TheVariants.{Done, Refused}
-use Rattle.packed.specs.File.{fileOf}
+use Rattle.packed.specs.File.{file_of}
 use Rattle.answers.specs.Buffers.{over}
 use Rattle.packed.specs.Promise.{Packed}
 use Rattle.packed.specs.Promise.Packed.{too_many, no-room-for-file, whole-file}
-use Rattle.packed.proofs.WordsAndOctets.{length-fileOf}
-use Rattle.packed.proofs.WrittenFront.{header, over-header}
+use Rattle.packed.proofs.WordsAndOctets.{length-file_of}
+use Rattle.packed.proofs.WrittenFront.{header, over_header}
 use Rattle.packed.proofs.pack.Statement.{statement}
 use Rattle.packed.proofs.pack.Tie as tie
 
 -- the rows, with the length needed as code has it
 no_room : (words file : List ℕ) → length words ≤ 8707 → length file < 3 + 2 * length words →
     Packed words file (Refused 3 (3 + 2 * length words)) file
-no_room words file g h = let e = length-fileOf words in rw (← e) (no-room-for-file g (omega arith))
+no_room words file g h = let e = length-file_of words in rw (← e) (no-room-for-file g (omega arith))
 
 whole : (words file after : List ℕ) → length words ≤ 8707 → 3 + 2 * length words ≤ length file →
-    after ≡ over (fileOf words) file → Packed words file (Done (3 + 2 * length words)) after
-whole words file after g h b = let e = length-fileOf words in rw (b, ← e) (whole-file g (omega arith))
+    after ≡ over (file_of words) file → Packed words file (Done (3 + 2 * length words)) after
+whole words file after g h b = let e = length-file_of words in rw (b, ← e) (whole-file g (omega arith))
 
 refuse-requires : tie.Need-refuse-requires
 refuse-requires c κs = search rules
@@ -94,7 +94,7 @@ returns-3 c =
     let at-else = c.before.before.before.before.before.before in
     let a = at-else.before.before.before.before.args in
     whole a.words.now a.file.now _ (omega arith) (omega arith)
-    (c.before.before.write-words.ensures ∙ over-header a.words.now a.file.now _ _ _)
+    (c.before.before.write-words.ensures ∙ over_header a.words.now a.file.now _ _ _)
 
 pub pack-spec : {M : Type 1} → statement M
 pack-spec =

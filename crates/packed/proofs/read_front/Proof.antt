@@ -7,8 +7,8 @@ use native.Mathlib.Omega.{arith}
 use borrow.Author.Rules.{rules}
 use lib.ListN.{length, take, drop, get_or}
 use Rattle.packed.specs.File.{word_of, words_in}
-use Rattle.packed.proofs.WordsAndOctets.{length-wordsIn, wordsIn-at}
-use Rattle.answers.proofs.WrittenFromFront.{all-over, store-next}
+use Rattle.packed.proofs.WordsAndOctets.{length_words_in, words_in_at}
+use Rattle.answers.proofs.WrittenFromFront.{all_over, store_next}
 use Rattle.packed.proofs.read_front.Statement.{statement}
 use Rattle.packed.proofs.read_front.Tie as tie
 
@@ -49,22 +49,22 @@ loop-less c = search rules
 loop-again : tie.Need-loop-preserved invariant-loop decreases-loop
 loop-again c =
     let at-loop = c.before.before.before in
-    let at-start = at-loop.before.before.before in
+    let at_start = at-loop.before.before.before in
     let i = at-loop.loop.i in
     let o = 3 + 2 * i in
-    let file = at-start.args.file.now in
-    let words₀ = at-start.args.words.now in
+    let file = at_start.args.file.now in
+    let words₀ = at_start.args.words.now in
     let more : i < length (words_in file) = omega arith in
     let first : c.exchanged.result / 256 ≡ get_or file o 0 = c.exchanged.ensures.0 ∙ c.before.low_first.ensures.0 in
     let second : c.exchanged.result % 256 ≡ get_or file (o + 1) 0 = c.exchanged.ensures.1 ∙ c.before.low_first.ensures.1 in
     let spelled : c.exchanged.result ≡ word_of (get_or file o 0) (get_or file (o + 1) 0) = omega arith in
     let v : c.exchanged.result ≡ get_or (words_in file) i 0 =
-    spelled ∙ sym (wordsIn-at file _ i at-start.requires.0 more) in (
+    spelled ∙ sym (words_in_at file _ i at_start.requires.0 more) in (
       search rules,
       (
         search rules,
         rw (at-loop.loop.invariant.1.1, v)
-            (store-next (words_in file) words₀ i more (search rules)),
+            (store_next (words_in file) words₀ i more (search rules)),
       ),
     )
 

@@ -8,8 +8,8 @@ use native.Mathlib.Nat.{add-zero}
 use borrow.Author.Rules.{rules}
 use lib.ListN.{length, take, drop, get_or, take-append-drop}
 use Rattle.packed.specs.File.{words_in}
-use Rattle.packed.proofs.WordsAndOctets.{length-wordsIn, wordsIn-at}
-use Rattle.answers.proofs.WrittenFromFront.{all-over, store-next}
+use Rattle.packed.proofs.WordsAndOctets.{length_words_in, words_in_at}
+use Rattle.answers.proofs.WrittenFromFront.{all_over, store_next}
 use Rattle.packed.proofs.read_last.Statement.{statement}
 use Rattle.packed.proofs.read_last.Tie as tie
 
@@ -68,16 +68,16 @@ loop-again c =
     let file = start.args.file.now in
     let last = start.args.last in
     let j = at-loop.loop.j in
-    let long = length-wordsIn file (last + 8) start.requires.0 in
+    let long = length_words_in file (last + 8) start.requires.0 in
     let at : 3 + 2 * last + 2 * j ≡ 3 + 2 * (last + j) = omega arith in
     let next : last + (j + 1) ≡ last + j + 1 = omega arith in
     let low : j < 8 = search rules in
     let spelled = at-loop.before.before.read-block.ensures j low in
-    let word = rw at at spelled ∙ sym (wordsIn-at file (last + 8) (last + j) start.requires.0 (omega arith)) in (
+    let word = rw at at spelled ∙ sym (words_in_at file (last + 8) (last + j) start.requires.0 (omega arith)) in (
       search rules,
       search rules,
       rw (next, at-loop.loop.invariant.2, word)
-          (store-next (words_in file) start.args.words.now (last + j) (omega arith) (omega (arith, start.requires.1.0))),
+          (store_next (words_in file) start.args.words.now (last + j) (omega arith) (omega (arith, start.requires.1.0))),
     )
 
 same_length : tie.Need-same-length invariant-loop decreases-loop
@@ -87,8 +87,8 @@ returns : tie.Need-returns invariant-loop decreases-loop
 returns c =
     let start = c.before.before.before.before.before.before.before in
     let file = start.args.file.now in
-    let long = length-wordsIn file (start.args.last + 8) start.requires.0 in
-    c.before.loop.invariant.2 ∙ all-over (words_in file) start.args.words.now (start.args.last + c.before.loop.j) (omega arith)
+    let long = length_words_in file (start.args.last + 8) start.requires.0 in
+    c.before.loop.invariant.2 ∙ all_over (words_in file) start.args.words.now (start.args.last + c.before.loop.j) (omega arith)
 
 pub read_last_spec : {M : Type 1} → statement M
 read_last_spec =

@@ -7,16 +7,16 @@ use borrow.Author.Rules.{rules}
 use lib.ListN.{length}
 use Rattle.packed.specs.File.{words_in}
 use Rattle.answers.specs.Buffers.{over}
-use Rattle.answers.proofs.WrittenFromFront.{all-over}
-use Rattle.packed.proofs.WordsAndOctets.{length-wordsIn}
-use Rattle.packed.proofs.BlockFilled.{front-holds, over-again}
+use Rattle.answers.proofs.WrittenFromFront.{all_over}
+use Rattle.packed.proofs.WordsAndOctets.{length_words_in}
+use Rattle.packed.proofs.BlockFilled.{front_holds, over_again}
 use Rattle.packed.proofs.read_words.Statement.{statement}
 use Rattle.packed.proofs.read_words.Tie as tie
 
 read-front-requires : tie.Need-read-front-requires
 read-front-requires c κs =
     let start = c.before.before.before.before in
-    let long = length-wordsIn start.args.file.now start.args.count start.requires.0 in
+    let long = length_words_in start.args.file.now start.args.count start.requires.0 in
     (omega (arith, start.requires.0), (omega arith, omega (arith, start.requires.1)))
 
 same_length : tie.Need-same-length
@@ -28,7 +28,7 @@ returns c =
     let file = start.args.file.now in
     let count = start.args.count in
     c.before.before.read-front.ensures
-    ∙ all-over (words_in file) start.args.words.now count (length-wordsIn file count start.requires.0)
+    ∙ all_over (words_in file) start.args.words.now count (length_words_in file count start.requires.0)
 
 sub-read-front : tie.Need-overflow-sub-read-front
 sub-read-front c = search rules
@@ -42,7 +42,7 @@ mul-read-front c = search rules
 read-front-requires-2 : tie.Need-read-front-requires-2
 read-front-requires-2 c κs =
     let start = c.before.before.before.before in
-    let long = length-wordsIn start.args.file.now start.args.count start.requires.0 in
+    let long = length_words_in start.args.file.now start.args.count start.requires.0 in
     (omega (arith, start.requires.0), (omega arith, omega (arith, start.requires.1)))
 
 read-last-requires : tie.Need-read-last-requires
@@ -51,9 +51,9 @@ read-last-requires c κs =
     let start = at_front.before.before.before.before.before in
     let file = start.args.file.now in
     let count = start.args.count in
-    let long = length-wordsIn file count start.requires.0 in
+    let long = length_words_in file count start.requires.0 in
     let f = (count - 8 + 7) / 8 * 8 in
-    let held = front-holds (count - 8) f (words_in file) start.args.words.now (omega arith) (omega arith) in
+    let held = front_holds (count - 8) f (words_in file) start.args.words.now (omega arith) (omega arith) in
     (omega (arith, start.requires.0), (search rules, rw at_front.read-front2.ensures held))
 
 same-length-2 : tie.Need-same-length-2
@@ -66,11 +66,11 @@ returns-2 c =
     let start = at_front.before.before.before.before.before in
     let file = start.args.file.now in
     let count = start.args.count in
-    let long = length-wordsIn file count start.requires.0 in
+    let long = length_words_in file count start.requires.0 in
     let f = (count - 8 + 7) / 8 * 8 in
     at_last.read-last.ensures
     ∙ ap (over (words_in file)) at_front.read-front2.ensures
-    ∙ over-again f (words_in file) start.args.words.now (omega arith) (omega (arith, start.requires.1))
+    ∙ over_again f (words_in file) start.args.words.now (omega arith) (omega (arith, start.requires.1))
 
 pub read-words-spec : {M : Type 1} → statement M
 read-words-spec =

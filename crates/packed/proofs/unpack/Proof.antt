@@ -4,7 +4,7 @@ use native.Mathlib.Omega.{arith}
 use borrow.Author.Rules.{rules}
 use Rattle.packed.specs.declared.FileAnswer.TheVariants.{Done}
 use Rattle.packed.specs.Judged.{Judged}
-use Rattle.packed.proofs.RowsOfJudged.{refusal-stands, good_length, good-no-room, good-done}
+use Rattle.packed.proofs.RowsOfJudged.{refusal_stands, good_length, good_no_room, good_done}
 use Rattle.packed.proofs.unpack.Statement.{statement}
 use Rattle.packed.proofs.unpack.Tie as tie
 
@@ -21,7 +21,7 @@ returns : tie.Need-returns
 returns c =
     let e = c.enum_told.given.1 in
     let a = c.before.before.before.before.before.args in
-    rw e (refusal-stands a.words.now (rw e at c.before.before.judge.ensures))
+    rw e (refusal_stands a.words.now (rw e at c.before.before.judge.ensures))
 
 -- where the file passed: Done carries the number of its words
 passed : (c : tie.After-known-told) →
@@ -32,7 +32,7 @@ refuse-requires : tie.Need-refuse-requires
 refuse-requires c κs = search rules
 
 returns-2 : tie.Need-returns-2
-returns-2 c = rw c.refuse.ensures (good-no-room _ (passed c.before.before) (omega arith))
+returns-2 c = rw c.refuse.ensures (good_no_room _ (passed c.before.before) (omega arith))
 
 read-words-requires : tie.Need-read-words-requires
 read-words-requires c κs = (good_length (passed c.before.before), omega arith)
@@ -43,7 +43,7 @@ same_length c = search rules
 returns-3 : tie.Need-returns-3
 returns-3 c =
     let e = c.before.before.before.before in
-    good-done _ _ (passed e.before) (omega arith) c.before.before.read-words.ensures
+    good_done _ _ (passed e.before) (omega arith) c.before.before.read-words.ensures
 
 pub unpack-spec : {M : Type 1} → statement M
 unpack-spec =

@@ -7,9 +7,9 @@ use Prim.Native.Nat.{ℕ, ◌+◌, ◌*◌, ◌-◌, ◌≤◌, ◌<◌}
 use native.Mathlib.Omega.{arith}
 use borrow.Author.Rules.{rules}
 use lib.ListN.{length, take, drop, take-append-drop}
-use Rattle.packed.specs.File.{fileOf}
-use Rattle.packed.proofs.WordsAndOctets.{length-fileOf, fileOf-high, fileOf-low}
-use Rattle.answers.proofs.WrittenFromFront.{all-over}
+use Rattle.packed.specs.File.{file_of}
+use Rattle.packed.proofs.WordsAndOctets.{length-file_of, file_of_high, file_of_low}
+use Rattle.answers.proofs.WrittenFromFront.{all_over}
 use Rattle.packed.proofs.WrittenFront.{store_two}
 use Rattle.packed.proofs.write_front.Statement.{statement}
 use Rattle.packed.proofs.write_front.Tie as tie
@@ -17,16 +17,16 @@ use Rattle.packed.proofs.write_front.Tie as tie
 abbrev invariant-loop : tie.invariant-loop
 invariant-loop words file₀ count i₀ file i =
     (i ≤ count)
-    × ((length file ≡ length file₀) × (file ≡ take (3 + 2 * i) (fileOf words) ++ drop (3 + 2 * i) file₀))
+    × ((length file ≡ length file₀) × (file ≡ take (3 + 2 * i) (file_of words) ++ drop (3 + 2 * i) file₀))
 
 abbrev decreases-loop : tie.decreases-loop
 decreases-loop words file₀ count i₀ file i = count - i
 
 loop-holds : tie.Need-loop-init invariant-loop decreases-loop
 loop-holds c =
-    let at-start = c.before.before in
-    let file₀ = at-start.args.file.now in
-    let whole = sym (take-append-drop 3 file₀) ∙ ap (λ (l : List ℕ). l ++ drop 3 file₀) at-start.requires.1.0 in
+    let at_start = c.before.before in
+    let file₀ = at_start.args.file.now in
+    let whole = sym (take-append-drop 3 file₀) ∙ ap (λ (l : List ℕ). l ++ drop 3 file₀) at_start.requires.1.0 in
     (search rules, (search rules, whole))
 
 mul-put-low-first : tie.Need-overflow-mul-put-low-first invariant-loop decreases-loop
@@ -58,23 +58,23 @@ loop-again c =
     let at-put = c.before.before in
     let at-exchanged = at-put.before in
     let at-loop = at-exchanged.before.before.before.before in
-    let at-start = at-loop.before.before.before in
+    let at_start = at-loop.before.before.before in
     let i = at-loop.loop.i in
     let o = 3 + 2 * i in
-    let words = at-start.args.words.now in
-    let file₀ = at-start.args.file.now in
+    let words = at_start.args.words.now in
+    let file₀ = at_start.args.file.now in
     let more : i < length words = search rules in
-    let all = length-fileOf words in (
+    let all = length-file_of words in (
       search rules,
       (
         search rules,
         rw (at-put.put-low-first.ensures, at-loop.loop.invariant.1.1)
-            (store_two (fileOf words) file₀ o (3 + 2 * (i + 1)) _ _
+            (store_two (file_of words) file₀ o (3 + 2 * (i + 1)) _ _
             (omega arith)
             (omega arith)
             (omega arith)
-            (at-exchanged.exchanged.ensures.1 ∙ sym (fileOf-high words i more))
-            (at-exchanged.exchanged.ensures.0 ∙ sym (fileOf-low words i more))),
+            (at-exchanged.exchanged.ensures.1 ∙ sym (file_of_high words i more))
+            (at-exchanged.exchanged.ensures.0 ∙ sym (file_of_low words i more))),
       ),
     )
 

@@ -7,9 +7,9 @@ use native.Mathlib.Omega.{arith}
 use native.Mathlib.Nat.{add-zero}
 use borrow.Author.Rules.{rules}
 use lib.ListN.{length, take, drop, take-append-drop}
-use Rattle.packed.specs.File.{fileOf}
-use Rattle.packed.proofs.WordsAndOctets.{length-fileOf, fileOf-high, fileOf-low}
-use Rattle.answers.proofs.WrittenFromFront.{all-over}
+use Rattle.packed.specs.File.{file_of}
+use Rattle.packed.proofs.WordsAndOctets.{length-file_of, file_of_high, file_of_low}
+use Rattle.answers.proofs.WrittenFromFront.{all_over}
 use Rattle.packed.proofs.WrittenFront.{store_two}
 use Rattle.packed.proofs.write_last.Statement.{statement}
 use Rattle.packed.proofs.write_last.Tie as tie
@@ -17,7 +17,7 @@ use Rattle.packed.proofs.write_last.Tie as tie
 abbrev invariant-loop : tie.invariant-loop
 invariant-loop words file₀ last block j₀ file j =
     (j ≤ 8) × (length file ≡ length file₀)
-    × (file ≡ take (3 + 2 * (last + j)) (fileOf words) ++ drop (3 + 2 * (last + j)) file₀)
+    × (file ≡ take (3 + 2 * (last + j)) (file_of words) ++ drop (3 + 2 * (last + j)) file₀)
 
 abbrev decreases-loop : tie.decreases-loop
 decreases-loop words file₀ last block j₀ file j = 8 - j
@@ -70,16 +70,16 @@ loop-again c =
     let low : at-loop.loop.j < 8 = search rules in
     let more : i < length words = omega (arith, start.requires.0) in
     let exchanged = at-loop.before.before.exchange-block.ensures at-loop.loop.j low in
-    let all = length-fileOf words in (
+    let all = length-file_of words in (
       search rules,
       search rules,
       rw (at-put.put-low-first.ensures, at-loop.loop.invariant.2)
-          (store_two (fileOf words) start.args.file.now (3 + 2 * i) (3 + 2 * (start.args.last + (at-loop.loop.j + 1))) _ _
+          (store_two (file_of words) start.args.file.now (3 + 2 * i) (3 + 2 * (start.args.last + (at-loop.loop.j + 1))) _ _
           (omega arith)
           (omega arith)
           (omega (arith, start.requires.1.0))
-          (exchanged.1 ∙ sym (fileOf-high words i more))
-          (exchanged.0 ∙ sym (fileOf-low words i more))),
+          (exchanged.1 ∙ sym (file_of_high words i more))
+          (exchanged.0 ∙ sym (file_of_low words i more))),
     )
 
 same_length : tie.Need-same-length invariant-loop decreases-loop
@@ -89,8 +89,8 @@ returns : tie.Need-returns invariant-loop decreases-loop
 returns c =
     let start = c.before.before.before.before.before.before.before in
     let words = start.args.words.now in
-    let all = length-fileOf words in
-    c.before.loop.invariant.2 ∙ all-over (fileOf words) start.args.file.now (3 + 2 * (start.args.last + c.before.loop.j))
+    let all = length-file_of words in
+    c.before.loop.invariant.2 ∙ all_over (file_of words) start.args.file.now (3 + 2 * (start.args.last + c.before.loop.j))
     (omega (arith, start.requires.0))
 
 pub write-last-spec : {M : Type 1} → statement M

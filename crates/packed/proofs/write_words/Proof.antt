@@ -5,11 +5,11 @@ use Prim.Native.Nat.{◌+◌, ◌*◌, ◌-◌, ◌/◌, ◌≤◌}
 use native.Mathlib.Omega.{arith}
 use borrow.Author.Rules.{rules}
 use lib.ListN.{length}
-use Rattle.packed.specs.File.{fileOf}
+use Rattle.packed.specs.File.{file_of}
 use Rattle.answers.specs.Buffers.{over}
-use Rattle.answers.proofs.WrittenFromFront.{all-over}
-use Rattle.packed.proofs.WordsAndOctets.{length-fileOf}
-use Rattle.packed.proofs.BlockFilled.{front-holds, over-again}
+use Rattle.answers.proofs.WrittenFromFront.{all_over}
+use Rattle.packed.proofs.WordsAndOctets.{length-file_of}
+use Rattle.packed.proofs.BlockFilled.{front_holds, over_again}
 use Rattle.packed.proofs.write_words.Statement.{statement}
 use Rattle.packed.proofs.write_words.Tie as tie
 
@@ -24,7 +24,7 @@ returns c =
     let start = c.before.before.before.before.before.before.before in
     let words = start.args.words.now in
     c.before.before.write-front.ensures
-    ∙ all-over (fileOf words) start.args.file.now (3 + 2 * length words) (length-fileOf words)
+    ∙ all_over (file_of words) start.args.file.now (3 + 2 * length words) (length-file_of words)
 
 sub-write-front : tie.Need-overflow-sub-write-front
 sub-write-front c = search rules
@@ -43,10 +43,10 @@ write-last-requires c κs =
     let at_front = c.before.before.before in
     let start = at_front.before.before.before.before.before in
     let words = start.args.words.now in
-    let long = length-fileOf words in
+    let long = length-file_of words in
     let last = length words - 8 in
     let f = 3 + 2 * ((last + 7) / 8 * 8) in
-    let held = front-holds (3 + 2 * last) f (fileOf words) start.args.file.now (omega arith) (omega arith) in
+    let held = front_holds (3 + 2 * last) f (file_of words) start.args.file.now (omega arith) (omega arith) in
     (omega arith, (search rules, rw at_front.write-front2.ensures held))
 
 same-length-2 : tie.Need-same-length-2
@@ -58,11 +58,11 @@ returns-2 c =
     let at_front = at_last.before.before.before.before in
     let start = at_front.before.before.before.before.before in
     let words = start.args.words.now in
-    let long = length-fileOf words in
+    let long = length-file_of words in
     let f = 3 + 2 * ((length words - 8 + 7) / 8 * 8) in
     at_last.write-last.ensures
-    ∙ ap (over (fileOf words)) at_front.write-front2.ensures
-    ∙ over-again f (fileOf words) start.args.file.now (omega arith) (omega (arith, start.requires.0))
+    ∙ ap (over (file_of words)) at_front.write-front2.ensures
+    ∙ over_again f (file_of words) start.args.file.now (omega arith) (omega (arith, start.requires.0))
 
 pub write-words-spec : {M : Type 1} → statement M
 write-words-spec =

@@ -2,7 +2,7 @@
 use mathlib.Core.Path.{refl, sym}
 use lib.Seq.{length-take-le}
 use Rattle.handout.specs.declared.NextAnswer.TheVariants.{Next, Finished, Refused}
-use Rattle.handout.proofs.Main.{next-writes}
+use Rattle.handout.proofs.Main.{next_writes}
 use borrow.Author.Rules.{rules}
 use Rattle.suite.proofs.answered.Statement.{statement}
 use Rattle.suite.proofs.answered.Tie as tie
@@ -18,22 +18,22 @@ add-t21 c = search rules
 
 slice-reshare-prefix-sentence : tie.Need-slice-reshare-prefix-sentence
 slice-reshare-prefix-sentence c =
-    let handed = next-writes c.before.before.before.before.before.before.before.before.before.before.next.ensures _ _ _ c.before.before.target.given.1 in
+    let handed = next_writes c.before.before.before.before.before.before.before.before.before.before.next.ensures _ _ _ c.before.before.target.given.1 in
     handed.2.tokens.within
 
 slice-aggregate-sentence : tie.Need-slice-aggregate-sentence
 slice-aggregate-sentence c =
-    let handed = next-writes c.before.before.before.before.before.before.before.before.before.before.before.next.ensures _ _ _ c.before.before.before.target.given.1 in
+    let handed = next_writes c.before.before.before.before.before.before.before.before.before.before.before.next.ensures _ _ _ c.before.before.before.target.given.1 in
     sym (length-take-le _ _ handed.2.tokens.within)
 
 slice-reshare-prefix-sentence-2 : tie.Need-slice-reshare-prefix-sentence-2
 slice-reshare-prefix-sentence-2 c =
-    let handed = next-writes c.before.before.before.before.before.before.before.before.before.before.before.next.ensures _ _ _ c.before.before.before.target.given.1 in
+    let handed = next_writes c.before.before.before.before.before.before.before.before.before.before.before.next.ensures _ _ _ c.before.before.before.target.given.1 in
     handed.2.rules.within
 
 slice-aggregate-sentence-2 : tie.Need-slice-aggregate-sentence-2
 slice-aggregate-sentence-2 c =
-    let handed = next-writes c.before.before.before.before.before.before.before.before.before.before.before.before.next.ensures _ _ _ c.before.before.before.before.target.given.1 in
+    let handed = next_writes c.before.before.before.before.before.before.before.before.before.before.before.before.next.ensures _ _ _ c.before.before.before.before.target.given.1 in
     sym (length-take-le _ _ handed.2.rules.within)
 
 sentence-requires : tie.Need-sentence-requires
@@ -70,7 +70,7 @@ returns c =
       answer = Next told.0.0 told.0.1.0 told.0.1.1.0;
       promise = rw told.1 at c.before.before.before.before.before.before.before.before.before.before.before.before.before.before.before.before.next.ensures;
       line = c.before.before.sentence2.ensures;
-      same-words = refl;
+      same_words = refl;
       count = refl;
       last = refl;
     }
@@ -94,7 +94,7 @@ returns-2 c =
       answer = Finished;
       promise = rw c.before.before.before.before.enum_told.given.1 at c.before.before.before.before.before.before.before.before.before.before.before.before.next.ensures;
       line = line;
-      same-words = words;
+      same_words = words;
       count = count;
       last = over;
     }
@@ -118,7 +118,7 @@ returns-3 c =
       answer = Refused told.0.0 told.0.1.0;
       promise = rw told.1 at c.before.before.before.before.before.before.before.before.before.before.before.before.before.next.ensures;
       line = c.before.before.refused.ensures;
-      same-words = refl;
+      same_words = refl;
       count = refl;
       last = refl;
     }

@@ -3,8 +3,8 @@
 use mathlib.Core.Path.{◌≡◌, refl}
 use lib.ListN.{length}
 use borrow.Author.Tests.{not-true, not-false}
-use Rattle.suite.proofs.MoreLines.{true-not-false, count-few, sentence-more, Filling, filling-begins, filling-goes-on, filling-ends}
-use Rattle.suite.proofs.MoreLines.{LineRoom, room-left, no-room-left, turns, turns-fall}
+use Rattle.suite.proofs.MoreLines.{true_not_false, count_few, sentence_more, Filling, filling_begins, filling_goes_on, filling_ends}
+use Rattle.suite.proofs.MoreLines.{LineRoom, room_left, no_room_left, turns, turns_fall}
 use borrow.Author.Rules.{rules}
 use Rattle.suite.proofs.fill.Statement.{statement}
 use Rattle.grammar.specs.Terms.{limit}
@@ -21,7 +21,7 @@ decreases-loop words table marks₀ text₀ sentence₀ derivation₀ so₀ mark
 loop-holds : tie.Need-loop-init invariant-loop decreases-loop
 loop-holds c =
     let large = c.before.before.before.before.requires.0 in
-    (refl, refl, search rules, search rules, (large.0, search rules, search rules), filling-begins c.before.before.before.before.requires.1)
+    (refl, refl, search rules, search rules, (large.0, search rules, search rules), filling_begins c.before.before.before.before.requires.1)
 
 sub-if2 : tie.Need-overflow-sub-if2 invariant-loop decreases-loop
 sub-if2 c = c.before.before.before.loop.invariant.5.waits.within
@@ -33,27 +33,27 @@ slice-aggregate-answered-2 : tie.Need-slice-aggregate-answered-2 invariant-loop 
 slice-aggregate-answered-2 c = search rules
 
 answered-requires : tie.Need-answered-requires invariant-loop decreases-loop
-answered-requires c κs = count-few c.before.before.before.before.before.before.before.before.loop.invariant.5.waits.so_far (not-true _ c.before.before.before.before.before.before.if1.true)
+answered-requires c κs = count_few c.before.before.before.before.before.before.before.before.loop.invariant.5.waits.so_far (not-true _ c.before.before.before.before.before.before.if1.true)
 
 loop-less : tie.Need-loop-smaller invariant-loop decreases-loop
 loop-less c =
     let inv = c.before.before.before.before.before.before.before.before.before.before.before.before.before.before.before.loop.invariant in
     let on = not-true _ c.before.before.before.before.before.before.before.before.before.before.before.before.before.if1.true in
-    let room = room-left inv.5.waits.within c.before.before.before.before.before.before.before.before.before.before.before.if2.true in
-    turns-fall _ _ _ _ on (count-few inv.5.waits.so_far on)
-    (sentence-more on room inv.4 c.before.before.before.before.before.before.answered.ensures)
+    let room = room_left inv.5.waits.within c.before.before.before.before.before.before.before.before.before.before.before.if2.true in
+    turns_fall _ _ _ _ on (count_few inv.5.waits.so_far on)
+    (sentence_more on room inv.4 c.before.before.before.before.before.before.answered.ensures)
 
 loop-again : tie.Need-loop-preserved invariant-loop decreases-loop
 loop-again c =
     let inv = c.before.before.before.before.before.before.before.before.before.before.before.before.before.before.before.loop.invariant in
     let on = not-true _ c.before.before.before.before.before.before.before.before.before.before.before.before.before.if1.true in
-    let room = room-left inv.5.waits.within c.before.before.before.before.before.before.before.before.before.before.before.if2.true in (
+    let room = room_left inv.5.waits.within c.before.before.before.before.before.before.before.before.before.before.before.if2.true in (
       search rules,
       search rules,
       search rules,
       search rules,
       (search rules, search rules, search rules),
-      filling-goes-on inv.5 on room inv.4 c.before.before.before.before.before.before.answered.ensures,
+      filling_goes_on inv.5 on room inv.4 c.before.before.before.before.before.before.answered.ensures,
     )
 
 same_length : tie.Need-same-length invariant-loop decreases-loop
@@ -65,7 +65,7 @@ same-length-2 c = search rules
 returns : tie.Need-returns invariant-loop decreases-loop
 returns c =
     let inv = c.before.before.before.before.loop.invariant in
-    filling-ends inv.5 inv.1 (λ is. no-room-left inv.5.waits.within c.if2.false)
+    filling_ends inv.5 inv.1 (λ is. no_room_left inv.5.waits.within c.if2.false)
 
 same-length-3 : tie.Need-same-length-3 invariant-loop decreases-loop
 same-length-3 c = search rules
@@ -76,7 +76,7 @@ same-length-4 c = search rules
 returns-2 : tie.Need-returns-2 invariant-loop decreases-loop
 returns-2 c =
     let inv = c.before.before.loop.invariant in
-    filling-ends inv.5 inv.1 (λ is. absurd (true-not-false (not-false _ c.if1.false) is))
+    filling_ends inv.5 inv.1 (λ is. absurd (true_not_false (not-false _ c.if1.false) is))
 
 pub fill_spec : {M : Type 1} → statement M
 fill_spec =

@@ -11,10 +11,10 @@ begin-requires : tie.Need-begin-requires
 begin-requires c κs = search rules
 
 slice-reshare-prefix-fill : tie.Need-slice-reshare-prefix-fill
-slice-reshare-prefix-fill c = c.before.before.before.before.before.before.begin.ensures.words-within
+slice-reshare-prefix-fill c = c.before.before.before.before.before.before.begin.ensures.words_within
 
 slice-aggregate-fill : tie.Need-slice-aggregate-fill
-slice-aggregate-fill c = sym (length-take-le _ _ c.before.before.before.before.before.before.before.begin.ensures.words-within)
+slice-aggregate-fill c = sym (length-take-le _ _ c.before.before.before.before.before.before.before.begin.ensures.words_within)
 
 fill-requires : tie.Need-fill-requires
 fill-requires c κs =

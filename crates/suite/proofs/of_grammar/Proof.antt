@@ -1,6 +1,6 @@
 -- `suite::of_grammar` meets its contract, by what the judge answers. Assumes nothing.
 use mathlib.Core.Path.{sym, ◌∙◌}
-use Rattle.suite.proofs.FirstLines.{judged-grammar, judged-fault}
+use Rattle.suite.proofs.FirstLines.{judged_grammar, judged_fault}
 use borrow.Author.Rules.{rules}
 use Rattle.suite.proofs.of_grammar.Statement.{statement}
 use Rattle.suite.proofs.of_grammar.Tie as tie
@@ -26,7 +26,7 @@ same_length c = search rules
 returns : tie.Need-returns
 returns c =
     let known = c.before.before.before.before.before in
-    judged-grammar known.before.before.before.before.before.requires _ (sym known.before.before.judge.ensures ∙ known.nonterminals.given.1) c.before.before.suite.ensures
+    judged_grammar known.before.before.before.before.before.requires _ (sym known.before.before.judge.ensures ∙ known.nonterminals.given.1) c.before.before.suite.ensures
 
 same-length-2 : tie.Need-same-length-2
 same-length-2 c = search rules
@@ -34,7 +34,7 @@ same-length-2 c = search rules
 returns-2 : tie.Need-returns-2
 returns-2 c =
     let known = c.before.before.before.before.before in
-    judged-fault _ (sym known.before.before.judge.ensures ∙ known.place.given.1) c.before.before.refused.ensures
+    judged_fault _ (sym known.before.before.judge.ensures ∙ known.place.given.1) c.before.before.refused.ensures
 
 pub of-grammar-spec : {M : Type 1} → statement M
 of-grammar-spec =

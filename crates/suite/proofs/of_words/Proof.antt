@@ -1,6 +1,6 @@
 -- `suite::of_words` meets its contract, by what `tables` answers. Assumes nothing.
-use Rattle.suite.specs.Begun.{refused-words}
-use Rattle.suite.proofs.FirstLines.{with-table}
+use Rattle.suite.specs.Begun.{refused_words}
+use Rattle.suite.proofs.FirstLines.{with_table}
 use borrow.Author.Rules.{rules}
 use Rattle.suite.proofs.of_words.Statement.{statement}
 use Rattle.suite.proofs.of_words.Tie as tie
@@ -27,7 +27,7 @@ same-length-2 : tie.Need-same-length-2
 same-length-2 c = search rules
 
 returns : tie.Need-returns
-returns c = with-table (rw c.before.before.before.before.enum_told.given.1 at c.before.before.before.before.before.before.before.before.tables.ensures) c.before.before.of-grammar.ensures
+returns c = with_table (rw c.before.before.before.before.enum_told.given.1 at c.before.before.before.before.before.before.before.before.tables.ensures) c.before.before.of_grammar.ensures
 
 same-length-3 : tie.Need-same-length-3
 same-length-3 c = search rules
@@ -37,7 +37,7 @@ same-length-4 c = search rules
 
 returns-2 : tie.Need-returns-2
 returns-2 c =
-    refused-words c.before.before.before.before.before.before.before.before.before.before.before.before.before.before.requires.0 (rw c.before.before.before.before.before.number.given.1 at c.before.before.before.before.before.before.before.before.before.tables.ensures) c.before.before.refused.ensures
+    refused_words c.before.before.before.before.before.before.before.before.before.before.before.before.before.before.requires.0 (rw c.before.before.before.before.before.number.given.1 at c.before.before.before.before.before.before.before.before.before.tables.ensures) c.before.before.refused.ensures
 
 pub of-words-spec : {M : Type 1} → statement M
 of-words-spec =

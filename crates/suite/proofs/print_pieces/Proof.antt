@@ -7,17 +7,17 @@ use lib.ListN.{length}
 use lib.Seq.{length-take-le}
 use borrow.Author.Rules.{rules}
 use borrow.Author.Tests.{not-true}
-use Rattle.lines.specs.Lines.{mostLine}
+use Rattle.lines.specs.Lines.{most_line}
 use Rattle.suite.specs.Pieces.{Pieces, first, next}
-use Rattle.suite.proofs.MoreLines.{count-few, turns, turns-fall}
+use Rattle.suite.proofs.MoreLines.{count_few, turns, turns_fall}
 use Rattle.answers.proofs.Tabulate.{zeros}
-use Rattle.suite.proofs.WholeText.{pieces-so-far, piece-made}
+use Rattle.suite.proofs.WholeText.{pieces_so_far, piece_made}
 use Rattle.suite.proofs.print_pieces.Statement.{statement}
 use Rattle.suite.proofs.print_pieces.Tie as tie
 
 abbrev invariant-loop : tie.invariant-loop
 invariant-loop file text₀ words table marks₀ so₀ end₀ is-written₀ text marks so end is-written =
-    (length text ≡ length text₀) × (256 ≡ length marks) × (mostLine ≤ length text) ×
+    (length text ≡ length text₀) × (256 ≡ length marks) × (most_line ≤ length text) ×
     ((calls : ℕ) × (out : List ℕ) × Pieces file words table calls out marks so)
 
 abbrev decreases-loop : tie.decreases-loop
@@ -44,7 +44,7 @@ slice-aggregate-print : tie.Need-slice-aggregate-print invariant-loop decreases-
 slice-aggregate-print c = sym (length-take-le _ _ c.before.before.before.before.before.before.first_piece.ensures.within)
 
 print-requires : tie.Need-print-requires invariant-loop decreases-loop
-print-requires c κs = piece-made [] (first c.before.before.before.before.before.before.first_piece.ensures)
+print-requires c κs = piece_made [] (first c.before.before.before.before.before.before.first_piece.ensures)
 
 loop-holds : tie.Need-loop-init invariant-loop decreases-loop
 loop-holds c = (search rules, search rules, search rules, (0, _, first c.before.before.before.before.before.before.before.first_piece.ensures))
@@ -74,13 +74,13 @@ slice-aggregate-print-2 c = sym (length-take-le _ _ c.before.before.before.befor
 print-requires-2 : tie.Need-print-requires-2 invariant-loop decreases-loop
 print-requires-2 c κs =
     let inv = c.before.before.before.before.before.before.before.before.before.before.before.before.loop.invariant in
-    piece-made inv.3.1 (next inv.3.2 (not-true _ c.before.before.before.before.before.before.before.before.before.if1.true) c.before.before.before.before.next-piece.ensures)
+    piece_made inv.3.1 (next inv.3.2 (not-true _ c.before.before.before.before.before.before.before.before.before.if1.true) c.before.before.before.before.next-piece.ensures)
 
 loop-less : tie.Need-loop-smaller invariant-loop decreases-loop
 loop-less c =
     let inv = c.before.before.before.before.before.before.before.before.before.before.before.before.before.loop.invariant in
     let on = not-true _ c.before.before.before.before.before.before.before.before.before.before.if1.true in
-    turns-fall _ _ _ _ on (count-few (pieces-so-far inv.3.2) on) c.before.before.before.before.before.next-piece.ensures.more
+    turns_fall _ _ _ _ on (count_few (pieces_so_far inv.3.2) on) c.before.before.before.before.before.next-piece.ensures.more
 
 loop-again : tie.Need-loop-preserved invariant-loop decreases-loop
 loop-again c =

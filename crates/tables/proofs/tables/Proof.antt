@@ -1,9 +1,9 @@
 -- `tables::tables` meets its contract: row 4 is the judge's, whose answer `leasts` hands on, and the others are those of what is
 -- worked out from the leasts. Assumes nothing.
 use borrow.Author.Rules.{rules}
-use Rattle.layout.proofs.WordsRead.{broken-of}
-use Rattle.grammar.specs.Rows.{row-4}
-use Rattle.tables.specs.Promise.{row-4-7}
+use Rattle.layout.proofs.WordsRead.{broken_of}
+use Rattle.grammar.specs.Rows.{row_4}
+use Rattle.tables.specs.Promise.{row_4_7}
 use Rattle.tables.proofs.Outcomes.{measured}
 use Rattle.tables.proofs.tables.Statement.{statement}
 use Rattle.tables.proofs.tables.Tie as tie
@@ -25,7 +25,7 @@ of-grammar-requires c κs =
 returns : tie.Need-returns
 returns c =
     let found = c.before.before.before.leasts in
-    row-4-7 (row-4 (broken-of _ found.ensures.answer c.before.answer.given.1))
+    row_4_7 (row_4 (broken_of _ found.ensures.answer c.before.answer.given.1))
 
 same_length : tie.Need-same-length
 same_length c = search rules

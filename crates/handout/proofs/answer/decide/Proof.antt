@@ -1,6 +1,6 @@
 -- `handout::answer::decide` meets its contract: 4 to 8 without the table, and the others with it. Assumes nothing.
 use borrow.Author.Rules.{rules}
-use Rattle.handout.proofs.NextOutcomes.{refuses-untabled, own-table}
+use Rattle.handout.proofs.NextOutcomes.{refuses_untabled, own_table}
 use Rattle.handout.proofs.answer.decide.Statement.{statement}
 use Rattle.handout.proofs.answer.decide.Tie as tie
 
@@ -24,14 +24,14 @@ with-table-requires c κs =
     let nonterminals = c.before in
     let found = nonterminals.before.before in
     let start = found.before.before.before.before.before.before in
-    own-table start.requires found.found.given.1 nonterminals.narrow.ensures.1 c.narrow2.ensures.1
+    own_table start.requires found.found.given.1 nonterminals.narrow.ensures.1 c.narrow2.ensures.1
 
 returns : tie.Need-returns
 returns c =
     let told = c.before in
     let start = told.before.before.before.before.before.before in
     λ before e l m.
-    refuses-untabled start.requires.tested told.enum_told.given.1 c.without-table.ensures before
+    refuses_untabled start.requires.tested told.enum_told.given.1 c.without-table.ensures before
 
 returns-2 : tie.Need-returns-2
 returns-2 c = search rules

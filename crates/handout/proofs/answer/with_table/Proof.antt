@@ -1,14 +1,14 @@
 -- `handout::answer::with_table` meets its contract: 9, Finished, or what the target comes to. Assumes nothing.
 use borrow.Author.Rules.{rules}
 use native.Mathlib.Omega.{arith}
-use Rattle.handout.proofs.NextOutcomes.{refuses-9, finishes, requests, decides, ready}
+use Rattle.handout.proofs.NextOutcomes.{refuses_9, finishes, requests, decides, ready}
 use Rattle.handout.proofs.answer.with_table.Statement.{statement}
 use Rattle.handout.proofs.answer.with_table.Tie as tie
 
 returns : tie.Need-returns
 returns c =
     let start = c.before.before.before.before.before in
-    λ before e l m. refuses-9 start.requires (omega arith) before e
+    λ before e l m. refuses_9 start.requires (omega arith) before e
 
 first-unused-requires : tie.Need-first-unused-requires
 first-unused-requires c κs = search rules

@@ -1,6 +1,6 @@
 -- `handout::answer::without_table` meets its contract: what a table with no room is refused with, and 8 for 3. Assumes nothing.
 use borrow.Author.Rules.{rules}
-use Rattle.handout.proofs.NextOutcomes.{done-without, refused-without}
+use Rattle.handout.proofs.NextOutcomes.{done_without, refused_without}
 use Rattle.handout.proofs.answer.without_table.Statement.{statement}
 use Rattle.handout.proofs.answer.without_table.Tie as tie
 
@@ -17,19 +17,19 @@ enum-known-number : tie.Need-enum-known-number
 enum-known-number c = search rules
 
 returns : tie.Need-returns
-returns c = done-without c.before.before.before.tables.ensures c.enum_told.given.1
+returns c = done_without c.before.before.before.tables.ensures c.enum_told.given.1
 
 returns-2 : tie.Need-returns-2
 returns-2 c =
     let known = c.before.before in
     let tables = known.before.before.before in
-    (refused-without tables.tables.ensures known.number.given.1).0 c.if1.true
+    (refused_without tables.tables.ensures known.number.given.1).0 c.if1.true
 
 returns-3 : tie.Need-returns-3
 returns-3 c =
     let known = c.before.before in
     let tables = known.before.before.before in
-    (refused-without tables.tables.ensures known.number.given.1).1 c.if1.false
+    (refused_without tables.tables.ensures known.number.given.1).1 c.if1.false
 
 pub without-table-spec : {M : Type 1} → statement M
 without-table-spec =

@@ -3,8 +3,8 @@ use borrow.Author.Rules.{rules}
 use Prim.Native.Nat.{◌-◌}
 use lib.ListN.{length}
 use Rattle.handout.specs.Listing.{lengths}
-use Rattle.handout.proofs.ListerSteps.{Turn, tokens-kept, rules-kept, turns-begin, turn-goes-on, symbol-of-ready}
-use Rattle.handout.proofs.ListerSteps.{symbols-listed}
+use Rattle.handout.proofs.ListerSteps.{Turn, tokens_kept, rules_kept, turns_begin, turn_goes_on, symbol_of_ready}
+use Rattle.handout.proofs.ListerSteps.{symbols_listed}
 use Rattle.handout.proofs.lister.list_symbols.Statement.{statement}
 use Rattle.handout.proofs.lister.list_symbols.Tie as tie
 
@@ -18,7 +18,7 @@ decreases-loop words places table n symbols past sentence₀ derivation₀ so₀
 loop-holds : tie.Need-loop-init invariant-loop decreases-loop
 loop-holds c =
     let a = c.before.before.before.before.before.before.args in
-    turns-begin a.words.now a.places.now a.table.now a.n _ _ _ _
+    turns_begin a.words.now a.places.now a.table.now a.n _ _ _ _
 
 mul-list-symbol : tie.Need-overflow-mul-list-symbol invariant-loop decreases-loop
 mul-list-symbol c = search rules
@@ -31,7 +31,7 @@ list-symbol-requires c κs =
     let test = c.before.before.before in
     let loop = test.before in
     let start = loop.before.before.before.before.before.before.before in
-    symbol-of-ready start.requires loop.loop.invariant test.loop-test.true
+    symbol_of_ready start.requires loop.loop.invariant test.loop-test.true
 
 add-i : tie.Need-overflow-add-i invariant-loop decreases-loop
 add-i c = search rules
@@ -44,22 +44,22 @@ loop-again c =
     let listed = c.before.before.before.before in
     let test = listed.before.before.before.before in
     let loop = test.before in
-    turn-goes-on loop.loop.invariant test.loop-test.true listed.list-symbol.ensures
+    turn_goes_on loop.loop.invariant test.loop-test.true listed.list-symbol.ensures
 
 same_length : tie.Need-same-length invariant-loop decreases-loop
 same_length c =
     let loop = c.before in
     let start = loop.before.before.before.before.before.before.before in
-    tokens-kept (loop.loop.invariant.done.listed start.requires.g start.requires.known)
+    tokens_kept (loop.loop.invariant.done.listed start.requires.g start.requires.known)
 
 same-length-2 : tie.Need-same-length-2 invariant-loop decreases-loop
 same-length-2 c =
     let loop = c.before in
     let start = loop.before.before.before.before.before.before.before in
-    rules-kept (loop.loop.invariant.done.listed start.requires.g start.requires.known)
+    rules_kept (loop.loop.invariant.done.listed start.requires.g start.requires.known)
 
 returns : tie.Need-returns invariant-loop decreases-loop
-returns c = symbols-listed c.before.loop.invariant c.loop-test.false
+returns c = symbols_listed c.before.loop.invariant c.loop-test.false
 
 pub list-symbols-spec : {M : Type 1} → statement M
 list-symbols-spec =

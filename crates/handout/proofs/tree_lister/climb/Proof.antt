@@ -5,8 +5,8 @@ use native.Mathlib.Omega.{arith}
 use mathlib.Core.Path.{◌≡◌, refl, ap, ◌∙◌}
 use Prim.Native.Nat.{ℕ}
 use lib.ListN.{length, get_or}
-use Rattle.handout.specs.Listing.{contextBy}
-use Rattle.handout.proofs.PathSteps.{OnWay, way-begins, way_on, way-ends, way-falls, way-short}
+use Rattle.handout.specs.Listing.{context_by}
+use Rattle.handout.proofs.PathSteps.{OnWay, way_begins, way_on, way-ends, way_falls, way_short}
 use Rattle.handout.proofs.tree_lister.climb.Statement.{statement}
 use Rattle.handout.proofs.tree_lister.climb.Tie as tie
 
@@ -15,32 +15,32 @@ invariant-loop words places table start from path₀ a₀ steps₀ path a steps 
     (length path ≡ length path₀) × OnWay words places table start from path a steps
 
 abbrev decreases-loop : tie.decreases-loop
-decreases-loop words places table start from path₀ a₀ steps₀ path a steps = contextBy table a
+decreases-loop words places table start from path₀ a₀ steps₀ path a steps = context_by table a
 
 loop-holds : tie.Need-loop-init invariant-loop decreases-loop
 loop-holds c =
     let a = c.before.before.before.before.args in
-    (refl, way-begins a.words.now a.places.now a.table.now a.start a.from a.path.now)
+    (refl, way_begins a.words.now a.places.now a.table.now a.start a.from a.path.now)
 
 mul-path : tie.Need-overflow-mul-path invariant-loop decreases-loop
 mul-path c =
     let loop = c.before in
     let start = loop.before.before.before.before.before in
-    let short = way-short loop.loop.invariant.1 start.requires in
+    let short = way_short loop.loop.invariant.1 start.requires in
     search rules
 
 slice-write-path : tie.Need-slice-write-path invariant-loop decreases-loop
 slice-write-path c =
     let loop = c.before in
     let start = loop.before.before.before.before.before in
-    let short = way-short loop.loop.invariant.1 start.requires in
+    let short = way_short loop.loop.invariant.1 start.requires in
     omega (arith, short, loop.loop.invariant.0)
 
 add-steps : tie.Need-overflow-add-steps invariant-loop decreases-loop
 add-steps c =
     let loop = c.before in
     let start = loop.before.before.before.before.before in
-    let short = way-short loop.loop.invariant.1 start.requires in
+    let short = way_short loop.loop.invariant.1 start.requires in
     search rules
 
 rule-requires : tie.Need-rule-requires invariant-loop decreases-loop
@@ -66,7 +66,7 @@ loop-less c =
     let a = start.args in
     let at = index.index.ensures ∙ ap (λ (k : ℕ). get_or a.places.now k 0) (number.wide.ensures ∙ rule.rule.ensures) in
     let up = c.read.ensures ∙ ap (λ (j : ℕ). get_or a.words.now j 0) at in
-    rw up (way-falls loop.loop.invariant.1 start.requires test.loop-test.true)
+    rw up (way_falls loop.loop.invariant.1 start.requires test.loop-test.true)
 
 loop-again : tie.Need-loop-preserved invariant-loop decreases-loop
 loop-again c =
@@ -80,7 +80,7 @@ loop-again c =
     let at = index.index.ensures ∙ ap (λ (k : ℕ). get_or a.places.now k 0) (number.wide.ensures ∙ rule.rule.ensures) in
     let up = c.read.ensures ∙ ap (λ (j : ℕ). get_or a.words.now j 0) at in
     let inv = loop.loop.invariant in
-    let short = way-short inv.1 start.requires in
+    let short = way_short inv.1 start.requires in
     (search rules, way_on inv.1 test.loop-test.true (omega (arith, inv.0)) refl up)
 
 same_length : tie.Need-same-length invariant-loop decreases-loop

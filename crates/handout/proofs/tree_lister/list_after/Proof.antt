@@ -7,7 +7,7 @@ use Prim.Native.Nat.{ℕ, ◌-◌, ◌≤◌}
 use lib.ListN.{length}
 use Rattle.handout.specs.Listing.{lengths}
 use Rattle.handout.specs.TreeListing.{PathOf}
-use Rattle.handout.proofs.PathSteps.{AfterSo, after-begins, back_at, after-goes-on, after-ends}
+use Rattle.handout.proofs.PathSteps.{AfterSo, after_begins, back_at, after_goes_on, after_ends}
 use Rattle.handout.proofs.tree_lister.list_after.Statement.{statement}
 use Rattle.handout.proofs.tree_lister.list_after.Tie as tie
 
@@ -26,7 +26,7 @@ loop-holds c =
       omega arith,
       refl,
       refl,
-      λ start A way. after-begins a.words.now a.places.now a.table.now a.n start A _ _ _,
+      λ start A way. after_begins a.words.now a.places.now a.table.now a.n start A _ _ _,
     )
 
 mul-list-back : tie.Need-overflow-mul-list-back invariant-loop decreases-loop
@@ -36,7 +36,7 @@ shared-slice-read-list-back : tie.Need-shared-slice-read-list-back invariant-loo
 shared-slice-read-list-back c =
     let test = c.before in
     let start = test.before.before.before.before.before.before.before.before in
-    omega (arith, test.loop-test.true, start.requires.path-of.short)
+    omega (arith, test.loop-test.true, start.requires.path_of.short)
 
 list-back-requires : tie.Need-list-back-requires invariant-loop decreases-loop
 list-back-requires c κs =
@@ -44,8 +44,8 @@ list-back-requires c κs =
     let loop = test.before in
     let start = loop.before.before.before.before.before.before.before in
     let pre = start.requires in
-    let so = loop.loop.invariant.3 pre.start pre.A pre.path-of in
-    back_at pre.path-of so pre.ready test.loop-test.true refl
+    let so = loop.loop.invariant.3 pre.start pre.A pre.path_of in
+    back_at pre.path_of so pre.ready test.loop-test.true refl
 
 add-i : tie.Need-overflow-add-i invariant-loop decreases-loop
 add-i c = search rules
@@ -64,7 +64,7 @@ loop-again c =
       search rules,
       search rules,
       search rules,
-      λ start A way. after-goes-on way (inv.3 start A way) more refl listed,
+      λ start A way. after_goes_on way (inv.3 start A way) more refl listed,
     )
 
 same_length : tie.Need-same-length invariant-loop decreases-loop
@@ -79,7 +79,7 @@ returns c =
     let start = loop.before.before.before.before.before.before.before in
     let inv = loop.loop.invariant in
     let all : loop.loop.i ≡ start.args.steps = omega (arith, c.loop-test.false, inv.0) in
-    λ start A way. after-ends way (inv.3 start A way) all
+    λ start A way. after_ends way (inv.3 start A way) all
 
 pub list-after-spec : {M : Type 1} → statement M
 list-after-spec =

@@ -2,7 +2,7 @@
 use borrow.Author.Rules.{rules}
 use native.Mathlib.Omega.{arith}
 use mathlib.Core.Path.{◌∙◌}
-use Rattle.handout.proofs.BesideSteps.{right-read, back-within, back-listable, back-listed}
+use Rattle.handout.proofs.BesideSteps.{right_read, back_within, back_listable, back_listed}
 use Rattle.handout.proofs.tree_lister.list_back.Statement.{statement}
 use Rattle.handout.proofs.tree_lister.list_back.Tie as tie
 
@@ -35,9 +35,9 @@ add-next c =
     let start = rule.before.before.before.before.before.before in
     let a = start.args in
     let here = wide.wide.ensures ∙ rule.rule.ensures in
-    let symbols = right-read a.words.now a.places.now right.right.ensures.0 index.index.ensures here in
+    let symbols = right_read a.words.now a.places.now right.right.ensures.0 index.index.ensures here in
     let place_is = at.wide2.ensures ∙ place.place.ensures in
-    omega (arith, back-within symbols start.requires place_is)
+    omega (arith, back_within symbols start.requires place_is)
 
 mul-list-symbols : tie.Need-overflow-mul-list-symbols
 mul-list-symbols c =
@@ -50,9 +50,9 @@ mul-list-symbols c =
     let start = rule.before.before.before.before.before.before in
     let a = start.args in
     let here = wide.wide.ensures ∙ rule.rule.ensures in
-    let symbols = right-read a.words.now a.places.now right.right.ensures.0 index.index.ensures here in
+    let symbols = right_read a.words.now a.places.now right.right.ensures.0 index.index.ensures here in
     let place_is = at.wide2.ensures ∙ place.place.ensures in
-    omega (arith, back-within symbols start.requires place_is)
+    omega (arith, back_within symbols start.requires place_is)
 
 sub-list-symbols : tie.Need-overflow-sub-list-symbols
 sub-list-symbols c =
@@ -65,9 +65,9 @@ sub-list-symbols c =
     let start = rule.before.before.before.before.before.before in
     let a = start.args in
     let here = wide.wide.ensures ∙ rule.rule.ensures in
-    let symbols = right-read a.words.now a.places.now right.right.ensures.0 index.index.ensures here in
+    let symbols = right_read a.words.now a.places.now right.right.ensures.0 index.index.ensures here in
     let place_is = at.wide2.ensures ∙ place.place.ensures in
-    omega (arith, back-within symbols start.requires place_is)
+    omega (arith, back_within symbols start.requires place_is)
 
 part-list-symbols-start : tie.Need-slice-bounds-list-symbols-start
 part-list-symbols-start c =
@@ -80,9 +80,9 @@ part-list-symbols-start c =
     let start = rule.before.before.before.before.before.before in
     let a = start.args in
     let here = wide.wide.ensures ∙ rule.rule.ensures in
-    let symbols = right-read a.words.now a.places.now right.right.ensures.0 index.index.ensures here in
+    let symbols = right_read a.words.now a.places.now right.right.ensures.0 index.index.ensures here in
     let place_is = at.wide2.ensures ∙ place.place.ensures in
-    omega (arith, back-within symbols start.requires place_is)
+    omega (arith, back_within symbols start.requires place_is)
 
 part-list-symbols-end : tie.Need-slice-bounds-list-symbols-end
 part-list-symbols-end c =
@@ -95,9 +95,9 @@ part-list-symbols-end c =
     let start = rule.before.before.before.before.before.before in
     let a = start.args in
     let here = wide.wide.ensures ∙ rule.rule.ensures in
-    let symbols = right-read a.words.now a.places.now right.right.ensures.0 index.index.ensures here in
+    let symbols = right_read a.words.now a.places.now right.right.ensures.0 index.index.ensures here in
     let place_is = at.wide2.ensures ∙ place.place.ensures in
-    omega (arith, back-within symbols start.requires place_is)
+    omega (arith, back_within symbols start.requires place_is)
 
 list-symbols-requires : tie.Need-list-symbols-requires
 list-symbols-requires c κs =
@@ -110,9 +110,9 @@ list-symbols-requires c κs =
     let start = rule.before.before.before.before.before.before in
     let a = start.args in
     let here = wide.wide.ensures ∙ rule.rule.ensures in
-    let symbols = right-read a.words.now a.places.now right.right.ensures.0 index.index.ensures here in
+    let symbols = right_read a.words.now a.places.now right.right.ensures.0 index.index.ensures here in
     let place_is = at.wide2.ensures ∙ place.place.ensures in
-    back-listable symbols start.requires place_is
+    back_listable symbols start.requires place_is
 
 same_length : tie.Need-same-length
 same_length c = search rules
@@ -132,9 +132,9 @@ returns c =
     let start = rule.before.before.before.before.before.before in
     let a = start.args in
     let here = wide.wide.ensures ∙ rule.rule.ensures in
-    let symbols = right-read a.words.now a.places.now right.right.ensures.0 index.index.ensures here in
+    let symbols = right_read a.words.now a.places.now right.right.ensures.0 index.index.ensures here in
     let place_is = at.wide2.ensures ∙ place.place.ensures in
-    back-listed symbols start.requires place_is listed.list-symbols.ensures
+    back_listed symbols start.requires place_is listed.list-symbols.ensures
 
 pub list-back-spec : {M : Type 1} → statement M
 list-back-spec =

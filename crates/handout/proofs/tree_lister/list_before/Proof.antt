@@ -7,7 +7,7 @@ use Prim.Native.Nat.{ℕ, ◌≤◌}
 use lib.ListN.{length}
 use Rattle.handout.specs.Listing.{lengths}
 use Rattle.handout.specs.TreeListing.{climbed, PathOf, before, SideListed, none_so_far}
-use Rattle.handout.proofs.PathSteps.{front_at, before-goes-on, before-begins, before-ends}
+use Rattle.handout.proofs.PathSteps.{front_at, before_goes_on, before_begins, before_ends}
 use Rattle.handout.proofs.tree_lister.list_before.Statement.{statement}
 use Rattle.handout.proofs.tree_lister.list_before.Tie as tie
 
@@ -22,7 +22,7 @@ abbrev decreases-loop : tie.decreases-loop
 decreases-loop words places table n path steps sentence₀ derivation₀ so₀ i₀ sentence derivation so i = i
 
 loop-holds : tie.Need-loop-init invariant-loop decreases-loop
-loop-holds c = (omega arith, refl, refl, λ start A way. before-begins way)
+loop-holds c = (omega arith, refl, refl, λ start A way. before_begins way)
 
 sub-i : tie.Need-overflow-sub-i invariant-loop decreases-loop
 sub-i c = search rules
@@ -35,7 +35,7 @@ shared-slice-read-list-front c =
     let test = c.before in
     let loop = test.before in
     let start = loop.before.before.before.before.before.before.before in
-    omega (arith, test.loop-test.true, loop.loop.invariant.0, start.requires.path-of.short)
+    omega (arith, test.loop-test.true, loop.loop.invariant.0, start.requires.path_of.short)
 
 list-front-requires : tie.Need-list-front-requires invariant-loop decreases-loop
 list-front-requires c κs =
@@ -44,8 +44,8 @@ list-front-requires c κs =
     let start = loop.before.before.before.before.before.before.before in
     let pre = start.requires in
     let inv = loop.loop.invariant in
-    front_at pre.path-of pre.ready loop.loop.i test.loop-test.true inv.0 refl
-    (inv.3 pre.start pre.A pre.path-of)
+    front_at pre.path_of pre.ready loop.loop.i test.loop-test.true inv.0 refl
+    (inv.3 pre.start pre.A pre.path_of)
 
 loop-less : tie.Need-loop-smaller invariant-loop decreases-loop
 loop-less c = search rules
@@ -62,7 +62,7 @@ loop-again c =
       search rules,
       search rules,
       search rules,
-      λ start A way. before-goes-on way i above inv.0 refl (inv.3 start A way) listed,
+      λ start A way. before_goes_on way i above inv.0 refl (inv.3 start A way) listed,
     )
 
 same_length : tie.Need-same-length invariant-loop decreases-loop
@@ -75,7 +75,7 @@ returns : tie.Need-returns invariant-loop decreases-loop
 returns c =
     let loop = c.before.loop in
     let none : loop.i ≡ 0 = omega (arith, c.loop-test.false) in
-    λ start A way. before-ends way none (loop.invariant.3 start A way)
+    λ start A way. before_ends way none (loop.invariant.3 start A way)
 
 pub list-before-spec : {M : Type 1} → statement M
 list-before-spec =

@@ -5,8 +5,8 @@ use native.Mathlib.Omega.{arith}
 use mathlib.Core.Path.{sym, ◌∙◌}
 use lib.Seq.{length-take-le}
 use Rattle.grammar.specs.Terms.{limit}
-use Rattle.handout.proofs.ListerSteps.{one-rule, few-both}
-use Rattle.handout.proofs.BesideSteps.{right-read, front-within, front-listable, front-listed}
+use Rattle.handout.proofs.ListerSteps.{one_rule_lem, few_both}
+use Rattle.handout.proofs.BesideSteps.{right_read, front_within, front_listable, front_listed}
 use Rattle.handout.proofs.tree_lister.list_front.Statement.{statement}
 use Rattle.handout.proofs.tree_lister.list_front.Tie as tie
 
@@ -44,15 +44,15 @@ slice-aggregate-list-symbols c =
     let a = start.args in
     let number = rule.rule.ensures in
     let here = wide.wide2.ensures ∙ number in
-    let symbols = right-read a.words.now a.places.now right.right.ensures.0 index.index.ensures here in
+    let symbols = right_read a.words.now a.places.now right.right.ensures.0 index.index.ensures here in
     let place_is = at.wide.ensures ∙ place.place.ensures in
-    sym (length-take-le at.wide.result _ (front-within symbols start.requires place_is))
+    sym (length-take-le at.wide.result _ (front_within symbols start.requires place_is))
 
 add-list-symbols : tie.Need-overflow-add-list-symbols
 add-list-symbols c =
     let put = c.before.before.before.before.before.before in
     let start = put.before.before.before.before.before.before.before.before.before.before in
-    omega (arith, few-both start.args.past {most = limit} (omega (arith, start.requires.few)))
+    omega (arith, few_both start.args.past {most = limit} (omega (arith, start.requires.few)))
 
 list-symbols-requires : tie.Need-list-symbols-requires
 list-symbols-requires c κs =
@@ -67,9 +67,9 @@ list-symbols-requires c κs =
     let a = start.args in
     let number = rule.rule.ensures in
     let here = wide.wide2.ensures ∙ number in
-    let symbols = right-read a.words.now a.places.now right.right.ensures.0 index.index.ensures here in
+    let symbols = right_read a.words.now a.places.now right.right.ensures.0 index.index.ensures here in
     let place_is = at.wide.ensures ∙ place.place.ensures in
-    front-listable symbols start.requires place_is (one-rule a.past (omega (arith, start.requires.few)))
+    front_listable symbols start.requires place_is (one_rule_lem a.past (omega (arith, start.requires.few)))
 
 same_length : tie.Need-same-length
 same_length c = search rules
@@ -91,10 +91,10 @@ returns c =
     let a = start.args in
     let number = rule.rule.ensures in
     let here = wide.wide2.ensures ∙ number in
-    let symbols = right-read a.words.now a.places.now right.right.ensures.0 index.index.ensures here in
+    let symbols = right_read a.words.now a.places.now right.right.ensures.0 index.index.ensures here in
     let place_is = at.wide.ensures ∙ place.place.ensures in
-    let one = one-rule a.past (omega (arith, start.requires.few)) in
-    front-listed symbols start.requires place_is one put.put.ensures number listed.list-symbols.ensures
+    let one = one_rule_lem a.past (omega (arith, start.requires.few)) in
+    front_listed symbols start.requires place_is one put.put.ensures number listed.list-symbols.ensures
 
 pub list-front-spec : {M : Type 1} → statement M
 list-front-spec =

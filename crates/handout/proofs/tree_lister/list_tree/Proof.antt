@@ -5,8 +5,8 @@ use native.Mathlib.Omega.{arith}
 use mathlib.Core.Path.{ap, ◌∙◌}
 use Prim.Native.Nat.{ℕ}
 use lib.ListN.{get_or}
-use Rattle.handout.proofs.ListerSteps.{number-low}
-use Rattle.handout.proofs.TreeWrites.{climb-ready, along-ready, along-listed}
+use Rattle.handout.proofs.ListerSteps.{number_low}
+use Rattle.handout.proofs.TreeWrites.{climb_ready, along_ready, along_listed}
 use Rattle.handout.proofs.tree_lister.list_tree.Statement.{statement}
 use Rattle.handout.proofs.tree_lister.list_tree.Tie as tie
 
@@ -25,7 +25,7 @@ climb-requires c κs =
     let index = read.before in
     let start = index.before.before.before.before.before.before in
     let left = read.read.ensures ∙ ap (λ (j : ℕ). get_or start.args.words.now j 0) index.index.ensures in
-    climb-ready start.requires left (search rules)
+    climb_ready start.requires left (search rules)
 
 narrow-requires : tie.Need-narrow-requires
 narrow-requires c κs = search rules
@@ -41,10 +41,10 @@ list-along-requires c κs =
     let index = read.before in
     let start = index.before.before.before.before.before.before in
     let left = read.read.ensures ∙ ap (λ (j : ℕ). get_or start.args.words.now j 0) index.index.ensures in
-    let few = number-low start.requires.known start.requires.number in
+    let few = number_low start.requires.known start.requires.number in
     let same = number.narrow.ensures.1 (omega (arith, few)) in
     let way = rw left at climb.climb.ensures in
-    rw same (along-ready start.requires way)
+    rw same (along_ready start.requires way)
 
 same_length : tie.Need-same-length
 same_length c = search rules
@@ -61,10 +61,10 @@ returns c =
     let index = read.before in
     let start = index.before.before.before.before.before.before in
     let left = read.read.ensures ∙ ap (λ (j : ℕ). get_or start.args.words.now j 0) index.index.ensures in
-    let few = number-low start.requires.known start.requires.number in
+    let few = number_low start.requires.known start.requires.number in
     let same = number.narrow.ensures.1 (omega (arith, few)) in
     let way = rw left at climb.climb.ensures in
-    along-listed start.requires way same listed.list-along.ensures
+    along_listed start.requires way same listed.list-along.ensures
 
 pub list-tree-spec : {M : Type 1} → statement M
 list-tree-spec =

@@ -29,7 +29,7 @@ cast-if1 c = omega (arith, c.shared-slice-known.given c.before.before.loop.i)
 returns : tie.Need-returns invariant-loop decreases-loop
 returns c =
     let l = c.before.before.before.loop in
-    record { not-before = omega arith; not_after = omega arith; fit = l.invariant.2; unfit = λ h. omega arith }
+    record { not_before = omega arith; not_after = omega arith; fit = l.invariant.2; unfit = λ h. omega arith }
 
 add-i : tie.Need-overflow-add-i invariant-loop decreases-loop
 add-i c = search rules
@@ -47,7 +47,7 @@ loop-again c =
 returns-2 : tie.Need-returns-2 invariant-loop decreases-loop
 returns-2 c =
     let l = c.before.loop in
-    record { not-before = omega arith; not_after = omega arith; fit = l.invariant.2; unfit = λ h. absurd (omega arith) }
+    record { not_before = omega arith; not_after = omega arith; fit = l.invariant.2; unfit = λ h. absurd (omega arith) }
 
 pub first-unfit-spec : {M : Type 1} → statement M
 first-unfit-spec = tie.close (tie.spec invariant-loop decreases-loop loop-holds mul-if1 shared-slice-read-if1 cast-if1 returns add-i loop-less loop-again returns-2)

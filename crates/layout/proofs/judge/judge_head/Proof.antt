@@ -13,17 +13,17 @@ word-requires c κs = search rules
 returns : tie.Need-returns
 returns c =
     let ws = c.before.before.before.args.words.now in
-    head.no-nonterminals ws (omega arith)
+    head.no_nonterminals ws (omega arith)
 
 returns-2 : tie.Need-returns-2
 returns-2 c =
     let ws = c.before.before.before.before.args.words.now in
-    head.many-nonterminals ws (omega arith)
+    head.many_nonterminals ws (omega arith)
 
 returns-3 : tie.Need-returns-3
 returns-3 c =
     let ws = c.before.before.before.before.before.args.words.now in
-    head.no-terminals ws (omega arith) (omega arith) (omega arith)
+    head.no_terminals ws (omega arith) (omega arith) (omega arith)
 
 word-requires-2 : tie.Need-word-requires-2
 word-requires-2 c κs = search rules
@@ -31,7 +31,7 @@ word-requires-2 c κs = search rules
 returns-4 : tie.Need-returns-4
 returns-4 c =
     let ws = c.before.before.before.before.before.before.before.args.words.now in
-    head.many-terminals ws (omega arith) (omega arith) (omega arith)
+    head.many_terminals ws (omega arith) (omega arith) (omega arith)
 
 returns-5 : tie.Need-returns-5
 returns-5 c =
@@ -44,7 +44,7 @@ word-requires-3 c κs = search rules
 returns-6 : tie.Need-returns-6
 returns-6 c =
     let ws = c.before.before.before.before.before.before.before.before.before.before.args.words.now in
-    head.start-unfit ws (omega arith) (omega arith) (omega arith) (omega arith) (omega arith)
+    head.start_unfit ws (omega arith) (omega arith) (omega arith) (omega arith) (omega arith)
 
 returns-7 : tie.Need-returns-7
 returns-7 c =
@@ -53,7 +53,7 @@ returns-7 c =
       nonterminals = omega arith;
       terminals = omega arith;
       first = refl;
-      judged = head.head-fit ws (omega arith) (omega arith) (omega arith) (omega arith) (omega arith);
+      judged = head.head_fit ws (omega arith) (omega arith) (omega arith) (omega arith) (omega arith);
     }
 
 pub judge-head-spec : {M : Type 1} → statement M

@@ -8,12 +8,12 @@ use borrow.Author.Rules.{rules}
 use lib.ListN.{length, drop}
 use Rattle.answers.specs.Buffers.{over}
 use Rattle.grammar.specs.Words.{lefts}
-use Rattle.layout.specs.Walk.{walkStart}
-use Rattle.layout.specs.Rules.{placesFrom}
+use Rattle.layout.specs.Walk.{walk_start}
+use Rattle.layout.specs.Rules.{places_from}
 use Rattle.layout.specs.JudgeParts.{number_of, RuleEnds}
 use Rattle.layout.specs.declared.judge.Part.TheVariants.{Fit}
-use Rattle.layout.proofs.TableJudged.{whole, none_before, table-ends, table-full, rule-faulted, rule-passed}
-use Rattle.layout.proofs.PlacesNoted.{finally, one-noted, all_noted}
+use Rattle.layout.proofs.TableJudged.{whole, none_before, table_ends, table_full, rule_faulted, rule_passed}
+use Rattle.layout.proofs.PlacesNoted.{finally, one_noted, all_noted}
 use Rattle.layout.proofs.judge.judge_rules.Statement.{statement}
 use Rattle.layout.proofs.judge.judge_rules.Tie as tie
 
@@ -21,7 +21,7 @@ abbrev invariant-loop : tie.invariant-loop
 invariant-loop words N T first places₀ at₀ rules₀ places at rules =
     (rules ≤ 256) × (number_of (lefts (drop first words) first 256 N T) ≡ whole words N T at rules) ×
     (length places ≡ length places₀) × (at ≤ 3 + 34 * rules) ×
-    (over (placesFrom 256 words walkStart) places₀ ≡ finally words places at rules)
+    (over (places_from 256 words walk_start) places₀ ≡ finally words places at rules)
 
 abbrev decreases-loop : tie.decreases-loop
 decreases-loop words N T first places₀ at₀ rules₀ places at rules = 256 - rules
@@ -41,7 +41,7 @@ returns : tie.Need-returns invariant-loop decreases-loop
 returns c =
     let a = c.before.before.before.before.before.args in
     let l = c.before.before.loop in
-    let full = table-full a.words.now a.nonterminals a.terminals l.at l.rules (omega arith) (omega arith) in
+    let full = table_full a.words.now a.nonterminals a.terminals l.at l.rules (omega arith) (omega arith) in
     (l.invariant.1 ∙ full, tt)
 
 cast-places : tie.Need-overflow-cast-places invariant-loop decreases-loop
@@ -68,7 +68,7 @@ returns-2 c =
     let l = c.before.before.before.before.before.before.loop in
     let j = c.before.before.before.judge-rule in
     let e = c.before.place.given.1 in
-    let faulted = rule-faulted a.words.now a.nonterminals a.terminals l.at l.rules in
+    let faulted = rule_faulted a.words.now a.nonterminals a.terminals l.at l.rules in
     (l.invariant.1 ∙ faulted _ j.result (omega arith) j.ensures.0 e, tt)
 
 enum-known-next : tie.Need-enum-known-next invariant-loop decreases-loop
@@ -87,9 +87,9 @@ loop-again c =
     let j = c.before.before.before.judge-rule in
     let e = c.before.next.given.1 in
     let q = c.before.next.given.0.0 in
-    let passed = rule-passed a.words.now a.nonterminals a.terminals l.at l.rules in
+    let passed = rule_passed a.words.now a.nonterminals a.terminals l.at l.rules in
     let ends : RuleEnds a.words.now l.at (Fit q) = rw e at j.ensures.1 in
-    let noted = one-noted a.words.now l.places l.at l.rules q j.result (omega arith) (omega arith) j.ensures.1 e in (
+    let noted = one_noted a.words.now l.places l.at l.rules q j.result (omega arith) (omega arith) j.ensures.1 e in (
       search rules,
       l.invariant.1 ∙ passed _ j.result (omega arith) j.ensures.0 e,
       search rules,
@@ -104,7 +104,7 @@ returns-3 : tie.Need-returns-3 invariant-loop decreases-loop
 returns-3 c =
     let a = c.before.before.before.before.args in
     let l = c.before.loop in
-    let ends = table-ends a.words.now a.nonterminals a.terminals l.at l.rules (omega arith) in
+    let ends = table_ends a.words.now a.nonterminals a.terminals l.at l.rules (omega arith) in
     (l.invariant.1 ∙ ends, sym (l.invariant.4 ∙ all_noted a.words.now l.places l.at l.rules (omega arith)))
 
 pub judge-rules-spec : {M : Type 1} → statement M

@@ -2,7 +2,7 @@
 -- words that end in them. Assumes nothing.
 use mathlib.Core.Path.{refl}
 use native.Mathlib.Omega.{arith}
-use Rattle.layout.proofs.RuleJudged.{symbols-unfit, symbols-fit}
+use Rattle.layout.proofs.RuleJudged.{symbols_unfit, symbols_fit}
 use borrow.Author.Rules.{rules}
 use Rattle.layout.proofs.judge.judge_symbols.Statement.{statement}
 use Rattle.layout.proofs.judge.judge_symbols.Tie as tie
@@ -20,7 +20,7 @@ returns : tie.Need-returns
 returns c =
     let a = c.before.before.before.args in
     let u = c.first-unfit.ensures in
-    let unfit = symbols-unfit a.words.now a.nonterminals a.terminals a.first a.count c.first-unfit.result in
+    let unfit = symbols_unfit a.words.now a.nonterminals a.terminals a.first a.count c.first-unfit.result in
     (unfit (omega arith) (omega arith) (omega arith) u.fit (λ h. u.unfit (omega arith)), tt)
 
 add-end : tie.Need-overflow-add-end
@@ -33,14 +33,14 @@ returns-2 : tie.Need-returns-2
 returns-2 c =
     let a = c.before.before.before.before.args in
     let u = c.before.first-unfit2.ensures in
-    let unfit = symbols-unfit a.words.now a.nonterminals a.terminals a.first a.count c.before.first-unfit2.result in
+    let unfit = symbols_unfit a.words.now a.nonterminals a.terminals a.first a.count c.before.first-unfit2.result in
     (unfit (omega arith) (omega arith) (omega arith) u.fit (λ h. u.unfit (omega arith)), tt)
 
 returns-3 : tie.Need-returns-3
 returns-3 c =
     let a = c.before.before.before.before.args in
     let u = c.before.first-unfit2.ensures in
-    let fit = symbols-fit a.words.now a.nonterminals a.terminals a.first a.count in
+    let fit = symbols_fit a.words.now a.nonterminals a.terminals a.first a.count in
     (fit (omega arith) (λ j h l. u.fit j h (omega arith)), (refl, omega arith))
 
 pub judge-symbols-spec : {M : Type 1} → statement M

@@ -1,7 +1,7 @@
 -- `layout::judge::note` meets its contract: a fault of the head is the layout's, and else the rules decide.
 -- Assumes nothing.
 use mathlib.Core.Path.{◌∙◌}
-use Rattle.layout.proofs.AnswerJudged.{head-faulted, head_passed, none-noted}
+use Rattle.layout.proofs.AnswerJudged.{head_faulted, head_passed, none_noted}
 use borrow.Author.Rules.{rules}
 use Rattle.layout.proofs.judge.note.Statement.{statement}
 use Rattle.layout.proofs.judge.note.Tie as tie
@@ -30,8 +30,8 @@ returns c =
     let h = c.before.before.before.before.before.judge-head in
     let ws = c.before.before.before.before.before.before.before.args.words.now in
     let place = c.before.before.before.place in
-    let e = head-faulted ws h.result place.given.0.0 h.ensures place.given.1 in
-    (c.fault.ensures.0 ∙ e, c.fault.ensures.1 ∙ none-noted ws e)
+    let e = head_faulted ws h.result place.given.0.0 h.ensures place.given.1 in
+    (c.fault.ensures.0 ∙ e, c.fault.ensures.1 ∙ none_noted ws e)
 
 returns-2 : tie.Need-returns-2
 returns-2 c = search rules

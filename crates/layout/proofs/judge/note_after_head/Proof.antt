@@ -1,7 +1,7 @@
 -- `layout::judge::note_after_head` meets its contract: the words read are the head's, and the rest is the rules' promise.
 -- Assumes nothing.
 use mathlib.Core.Path.{◌∙◌}
-use Rattle.layout.proofs.AnswerJudged.{rules-counted, rules-faulted, rules-noted, none-noted}
+use Rattle.layout.proofs.AnswerJudged.{rules_counted, rules_faulted, rules_noted, none_noted}
 use borrow.Author.Rules.{rules}
 use Rattle.layout.proofs.judge.note_after_head.Statement.{statement}
 use Rattle.layout.proofs.judge.note_after_head.Tie as tie
@@ -36,9 +36,9 @@ returns c =
     let s = c.before.before.before.before.before.before.before.word3 in
     let r = c.before.before.before.before.before.judge-rules in
     let place = c.before.before.before.place in
-    let faulted = rules-faulted a.words.now a.at n.result t.result s.result start.requires.0 in
+    let faulted = rules_faulted a.words.now a.at n.result t.result s.result start.requires.0 in
     let e = faulted n.ensures t.ensures s.ensures r.result place.given.0.0 r.ensures.0 place.given.1 in
-    (c.fault.ensures.0 ∙ e, c.fault.ensures.1 ∙ none-noted a.words.now e)
+    (c.fault.ensures.0 ∙ e, c.fault.ensures.1 ∙ none_noted a.words.now e)
 
 returns-2 : tie.Need-returns-2
 returns-2 c =
@@ -49,9 +49,9 @@ returns-2 c =
     let s = c.before.before.before.before.before.word3 in
     let r = c.before.before.before.judge-rules in
     let rules = c.before.rules in
-    let counted = rules-counted a.words.now a.at n.result t.result s.result start.requires.0 in
+    let counted = rules_counted a.words.now a.at n.result t.result s.result start.requires.0 in
     let e = counted n.ensures t.ensures s.ensures r.result rules.given.0.0 r.ensures.0 rules.given.1 in
-    let noted = rules-noted a.words.now _ _ _ _ _ r.result rules.given.0.0 r.ensures.1 start.requires.1 in
+    let noted = rules_noted a.words.now _ _ _ _ _ r.result rules.given.0.0 r.ensures.1 start.requires.1 in
     (e, noted rules.given.1 e)
 
 pub note-after-head-spec : {M : Type 1} → statement M

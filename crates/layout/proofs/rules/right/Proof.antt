@@ -5,7 +5,7 @@ use Prim.Native.Nat.{◌+◌, ◌-◌}
 use native.Mathlib.Omega.{arith}
 use borrow.Author.Rules.{rules}
 use lib.ListN.{length-take}
-use Rattle.layout.proofs.RulesByNumber.{right-cut, right-whole}
+use Rattle.layout.proofs.RulesByNumber.{right_cut, right_whole}
 use Rattle.layout.proofs.rules.right.Statement.{statement}
 use Rattle.layout.proofs.rules.right.Tie as tie
 
@@ -15,7 +15,7 @@ slice-aggregate-result c = search rules
 returns : tie.Need-returns
 returns c =
     let a = c.before.before.before.args in
-    (sym (right-cut a.words.now a.at (omega arith)), search rules)
+    (sym (right_cut a.words.now a.at (omega arith)), search rules)
 
 slice-aggregate-result-2 : tie.Need-slice-aggregate-result-2
 slice-aggregate-result-2 c = search rules
@@ -23,7 +23,7 @@ slice-aggregate-result-2 c = search rules
 returns-2 : tie.Need-returns-2
 returns-2 c =
     let a = c.before.before.before.before.args in
-    (sym (right-cut a.words.now a.at (omega arith)), search rules)
+    (sym (right_cut a.words.now a.at (omega arith)), search rules)
 
 add-first : tie.Need-overflow-add-first
 add-first c = search rules
@@ -43,7 +43,7 @@ slice-aggregate-result-3 c = search rules
 returns-3 : tie.Need-returns-3
 returns-3 c =
     let a = c.before.before.before.before.before.before.args in
-    (sym (right-cut a.words.now a.at (omega arith)), search rules)
+    (sym (right_cut a.words.now a.at (omega arith)), search rules)
 
 add-end : tie.Need-overflow-add-end
 add-end c = search rules
@@ -67,7 +67,7 @@ returns-4 c =
     let counted = c.before.before.word in
     let size : a.at + 2 + counted.result - (a.at + 2) ≡ counted.result = omega arith in
     let word = c.before.before.before.before.before.shared-slice-known.given (a.at + 1) in
-    let whole = sym (right-whole a.words.now a.at (omega arith)) in
+    let whole = sym (right_whole a.words.now a.at (omega arith)) in
     (rw (size, counted.ensures) whole, simp length-take (omega (arith, word)))
 
 pub right-spec : {M : Type 1} → statement M

@@ -1,7 +1,7 @@
 -- `layout::walk::index_after` meets its contract: the case of the step is that of the place after it. Assumes nothing.
 use mathlib.Core.Path.{ap, sym, ◌∙◌}
 use borrow.Author.Rules.{rules}
-use Rattle.layout.specs.Walk.{place, pastStep}
+use Rattle.layout.specs.Walk.{place, past_step}
 use Rattle.layout.specs.declared.walk.Step.{Step}
 use Rattle.layout.proofs.walk.index_after.Statement.{statement}
 use Rattle.layout.proofs.walk.index_after.Tie as tie
@@ -19,13 +19,13 @@ returns : tie.Need-returns
 returns c =
     let a = c.before.before.before.before.before.args in
     ap
-    (λ (s : Step). (pastStep s (place a.at a.number)).at)
+    (λ (s : Step). (past_step s (place a.at a.number)).at)
     (sym c.before.span.given.1 ∙ c.before.before.before.step-at.ensures)
 
 returns-2 : tie.Need-returns-2
 returns-2 c =
     let a = c.before.before.before.before.args in
-    ap (λ (s : Step). (pastStep s (place a.at a.number)).at) (sym c.enum_told.given.1 ∙
+    ap (λ (s : Step). (past_step s (place a.at a.number)).at) (sym c.enum_told.given.1 ∙
     c.before.before.step-at.ensures)
 
 pub index-after-spec : {M : Type 1} → statement M

@@ -5,7 +5,7 @@ use mathlib.Core.Path.{◌≡◌, ap, sym, ◌∙◌}
 use Prim.Native.Nat.{ℕ, ◌+◌}
 use native.Mathlib.Omega.{arith}
 use borrow.Author.Rules.{rules}
-use Rattle.layout.specs.Walk.{place, pastStep}
+use Rattle.layout.specs.Walk.{place, past_step}
 use Rattle.layout.specs.declared.walk.Step.{Step}
 use Rattle.layout.proofs.RulesByNumber.{handed}
 use Rattle.layout.proofs.walk.number_after.Statement.{statement}
@@ -30,15 +30,15 @@ enum-told-2 c = search rules
 returns : tie.Need-returns
 returns c =
     let a = c.before.before.before.before.args in
-    let at-rule = sym c.before.before.step-at.ensures ∙ c.enum_told.given.1 in
-    let step = handed a.words.now (place a.at a.number) at-rule in
-    ap (λ (n : ℕ). n + 1) (sym step.number) ∙ ap (λ (s : Step). (pastStep s (place a.at a.number)).number) (sym at-rule)
+    let at_rule = sym c.before.before.step-at.ensures ∙ c.enum_told.given.1 in
+    let step = handed a.words.now (place a.at a.number) at_rule in
+    ap (λ (n : ℕ). n + 1) (sym step.number) ∙ ap (λ (s : Step). (past_step s (place a.at a.number)).number) (sym at_rule)
 
 returns-2 : tie.Need-returns-2
 returns-2 c =
     let a = c.before.before.before.before.args in
     ap
-    (λ (s : Step). (pastStep s (place a.at a.number)).number)
+    (λ (s : Step). (past_step s (place a.at a.number)).number)
     (sym c.enum-told2.given.1 ∙ c.before.before.step-at.ensures)
 
 pub number-after-spec : {M : Type 1} → statement M

@@ -45,7 +45,7 @@ use denote.Triple.Walked.{says, Stays, stay_none, stay_none_slice, walk_of, Goes
 use denote.Triple.Walked.{walk_Meets}
 use denote.Exit.{yes}
 use denote.Triple.Clauses.{ensured, lasts}
-use Rattle.layout.specs.Walk.{place, stepAt, walkAt}
+use Rattle.layout.specs.Walk.{place, step_at, walk_at}
 use Rattle.layout.specs.declared.walk.RuleWalk.{RuleWalk}
 use Rattle.layout.specs.declared.walk.Step.{Step}
 use Rattle.layout.specs.contracts.walk.RuleWalk as T
@@ -86,10 +86,10 @@ module _ {M : Type 1} {𝓤 : Ura M} (𝓛 : Logic 𝓤) (mem : Memory → SProp
 
   -- the walk that is made
   abbrev made : RuleWalk
-  made = walkAt s (place n m)
+  made = walk_at s (place n m)
 
   abbrev found : Step
-  found = stepAt s.now (place n m)
+  found = step_at s.now (place n m)
 
   abbrev at : Vals from-fn.signature (κ, tt)
   at = (v ∷ [], (vint w64 n ∷ [], (vint w64 m ∷ [], tt)))

@@ -1,15 +1,15 @@
--- `layout::walk::step_at` meets its contract: at each `return` the tests that led there say which case of `stepAt` holds.
+-- `layout::walk::step_at` meets its contract: at each `return` the tests that led there say which case of `step_at` holds.
 -- Assumes nothing.
 use mathlib.Core.Path.{sym}
 use native.Mathlib.Omega.{arith}
 use Rattle.layout.specs.Walk.{place}
-use Rattle.layout.proofs.WalkSteps.{step-past-256, step_cut, step-rule}
+use Rattle.layout.proofs.WalkSteps.{step_past_256, step_cut, step_rule}
 use borrow.Author.Rules.{rules}
 use Rattle.layout.proofs.walk.step_at.Statement.{statement}
 use Rattle.layout.proofs.walk.step_at.Tie as tie
 
 returns : tie.Need-returns
-returns c = let a = c.before.before.args in sym (step-past-256 a.words.now (place a.at a.number) (omega arith))
+returns c = let a = c.before.before.args in sym (step_past_256 a.words.now (place a.at a.number) (omega arith))
 
 returns-2 : tie.Need-returns-2
 returns-2 c =
@@ -47,7 +47,7 @@ add-t9 c = search rules
 returns-5 : tie.Need-returns-5
 returns-5 c =
     let a = c.before.before.before.before.before.before.before.args in
-    let stepped = step-rule a.words.now (place a.at a.number) (omega arith) (omega arith) in
+    let stepped = step_rule a.words.now (place a.at a.number) (omega arith) (omega arith) in
     simp (stepped, ← c.before.before.word.ensures, ← c.before.word2.ensures)
 
 pub step-at-spec : {M : Type 1} → statement M

@@ -2,7 +2,7 @@
 -- rules. Assumes nothing.
 use Prim.Native.Nat.{◌-◌}
 use native.Mathlib.Omega.{arith}
-use Rattle.leasts.proofs.RoundSoFar.{SoFar, none_so_far, one_more, all-so-far}
+use Rattle.leasts.proofs.RoundSoFar.{SoFar, none_so_far, one_more, all_so_far}
 use borrow.Author.Rules.{rules}
 use Rattle.leasts.proofs.rounds.least_round.Statement.{statement}
 use Rattle.leasts.proofs.rounds.least_round.Tie as tie
@@ -48,7 +48,7 @@ same_length : tie.Need-same-length invariant-loop decreases-loop
 same_length c = search rules
 
 returns : tie.Need-returns invariant-loop decreases-loop
-returns c = let so_far = c.before.loop.invariant in (so_far.fallen, all-so-far so_far (omega arith))
+returns c = let so_far = c.before.loop.invariant in (so_far.fallen, all_so_far so_far (omega arith))
 
 pub least-round-spec : {M : Type 1} → statement M
 least-round-spec =

@@ -2,7 +2,7 @@
 -- more rounds they cannot but settle. Assumes nothing.
 use mathlib.Core.Path.{refl}
 use Rattle.leasts.proofs.RoundSoFar.{rounded}
-use Rattle.leasts.proofs.RuleSizes.{settled-rested, quiet-rested, kept-both}
+use Rattle.leasts.proofs.RuleSizes.{settled_rested, quiet_rested, kept_both}
 use native.Mathlib.Omega.{arith}
 use borrow.Author.Rules.{rules}
 use Rattle.leasts.proofs.rounds.least_rounds.Statement.{statement}
@@ -35,7 +35,7 @@ returns c g view sound =
     let round = settled.before.before.before.before.before in
     let first = rounded (round.least-round.ensures.1 g view) sound in
     let sizes = settled.sizes-settle.ensures in
-    settled-rested view first.sound (rw c.if1.true at (sizes.0 g view)) sizes.1
+    settled_rested view first.sound (rw c.if1.true at (sizes.0 g view)) sizes.1
 
 slice-aggregate-more-rounds : tie.Need-slice-aggregate-more-rounds
 slice-aggregate-more-rounds c = search rules
@@ -67,8 +67,8 @@ returns-2 c g view sound =
     let rest = more.more-rounds.ensures g view first in
     let sizes = settled.sizes-settle2.ensures in
     let kept = more.before.before.before.before.before.before.sizes-settle.ensures.1 in
-    quiet-rested view settled.sizes-settle2.result rest.sound (rest.rests refl) (sizes.0 g view)
-    (kept-both kept sizes.1)
+    quiet_rested view settled.sizes-settle2.result rest.sound (rest.rests refl) (sizes.0 g view)
+    (kept_both kept sizes.1)
 
 pub least-rounds-spec : {M : Type 1} → statement M
 least-rounds-spec =

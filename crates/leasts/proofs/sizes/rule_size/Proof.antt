@@ -3,8 +3,8 @@
 use Prim.Native.Nat.{◌≤◌, ◌-◌}
 use mathlib.Core.Logic.{⊎_elim}
 use lib.ListN.{length, get_or}
-use Rattle.leasts.specs.LeastSteps.{has-size, no_size}
-use Rattle.leasts.proofs.RuleSummed.{Summed, symbol-read, of-terminal, summed-none, summed-more, summed-all, lacks-size}
+use Rattle.leasts.specs.LeastSteps.{has_size, no_size}
+use Rattle.leasts.proofs.RuleSummed.{Summed, symbol_read, of_terminal, summed_none, summed_more, summed_all, lacks_size}
 use native.Mathlib.Omega.{arith}
 use borrow.Author.Rules.{rules}
 use Rattle.leasts.proofs.sizes.rule_size.Statement.{statement}
@@ -17,7 +17,7 @@ abbrev decreases-loop : tie.decreases-loop
 decreases-loop symbols n leasts sum₀ i₀ sum i = length symbols - i
 
 loop-holds : tie.Need-loop-init invariant-loop decreases-loop
-loop-holds c = let a = c.args in (omega arith, summed-none a.n a.leasts.now a.symbols.now)
+loop-holds c = let a = c.args in (omega arith, summed_none a.n a.leasts.now a.symbols.now)
 
 mul-s : tie.Need-overflow-mul-s invariant-loop decreases-loop
 mul-s c = search rules
@@ -48,8 +48,8 @@ returns c =
     let a = c.before.before.before.before.before.before.args in
     let i = c.before.before.before.before.before.loop.i in
     let room = c.before.before.before.before.before.before.requires.1 in
-    let read = symbol-read a.leasts.now c.before.before.if1.true room in
-    no_size (lacks-size a.n a.leasts.now a.symbols.now i (omega arith) read c.if2.true)
+    let read = symbol_read a.leasts.now c.before.before.if1.true room in
+    no_size (lacks_size a.n a.leasts.now a.symbols.now i (omega arith) read c.if2.true)
 
 add-sum : tie.Need-overflow-add-sum invariant-loop decreases-loop
 add-sum c =
@@ -74,11 +74,11 @@ loop-again c =
       omega arith,
       ⊎_elim
           (λ (if1, known, if2, sum).
-          rw sum (summed-more a.n a.leasts.now a.symbols.now (omega arith)
-          (symbol-read a.leasts.now if1.taken room) if2.left
+          rw sum (summed_more a.n a.leasts.now a.symbols.now (omega arith)
+          (symbol_read a.leasts.now if1.taken room) if2.left
           (omega (arith, known.given (get_or a.symbols.now c.before.before.before.loop.i 0))) so_far))
           (λ (if1, sum).
-          rw sum (summed-more a.n a.leasts.now a.symbols.now (omega arith) (of-terminal if1.left) (omega arith)
+          rw sum (summed_more a.n a.leasts.now a.symbols.now (omega arith) (of_terminal if1.left) (omega arith)
           (omega arith) so_far))
           c.if1.branch,
     )
@@ -86,7 +86,7 @@ loop-again c =
 returns-2 : tie.Need-returns-2 invariant-loop decreases-loop
 returns-2 c =
     let a = c.before.before.args in
-    has-size (summed-all a.n a.leasts.now a.symbols.now (omega arith) (omega arith) c.before.loop.invariant.1)
+    has_size (summed_all a.n a.leasts.now a.symbols.now (omega arith) (omega arith) c.before.loop.invariant.1)
 
 pub rule-size-spec : {M : Type 1} → statement M
 rule-size-spec =

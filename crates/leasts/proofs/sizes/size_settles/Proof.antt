@@ -1,7 +1,7 @@
 -- `leasts::sizes::size_settles` meets its contract: each way out is one of `SizeStep`'s cases. Assumes nothing.
-use Rattle.figures.proofs.FiguresFall.{figure-is}
-use Rattle.leasts.proofs.RuleSummed.{sized-fits}
-use Rattle.leasts.proofs.RuleSizes.{step-none, step-lowers, step-noted}
+use Rattle.figures.proofs.FiguresFall.{figure_is}
+use Rattle.leasts.proofs.RuleSummed.{sized_fits}
+use Rattle.leasts.proofs.RuleSizes.{step_none, step_lowers, step_noted}
 use native.Mathlib.Omega.{arith}
 use borrow.Author.Rules.{rules}
 use Rattle.leasts.proofs.sizes.size_settles.Statement.{statement}
@@ -11,7 +11,7 @@ rule-size-requires : tie.Need-rule-size-requires
 rule-size-requires c κs = search rules
 
 cast-sizes : tie.Need-overflow-cast-sizes
-cast-sizes c = omega (arith, sized-fits c.rule-size.ensures)
+cast-sizes c = omega (arith, sized_fits c.rule_size.ensures)
 
 mul-sizes : tie.Need-overflow-mul-sizes
 mul-sizes c = search rules
@@ -23,7 +23,7 @@ same_length : tie.Need-same-length
 same_length c = search rules
 
 returns : tie.Need-returns
-returns c = step-none c.before.rule-size.ensures c.if1.true
+returns c = step_none c.before.rule_size.ensures c.if1.true
 
 cap-requires : tie.Need-cap-requires
 cap-requires c κs = search rules
@@ -41,8 +41,8 @@ returns-2 : tie.Need-returns-2
 returns-2 c =
     let else = c.before.before.before in
     let a = else.before.before.before.before.before.args in
-    let least = figure-is a.leasts.now a.left 0 (omega arith) in
-    step-lowers else.before.rule-size.ensures else.if1.false
+    let least = figure_is a.leasts.now a.left 0 (omega arith) in
+    step_lowers else.before.rule_size.ensures else.if1.false
     (omega (arith, c.if2.true, c.before.before.cap.ensures, least))
 
 same-length-3 : tie.Need-same-length-3
@@ -52,8 +52,8 @@ returns-3 : tie.Need-returns-3
 returns-3 c =
     let else = c.before.before.before in
     let a = else.before.before.before.before.before.args in
-    let least = figure-is a.leasts.now a.left 0 (omega arith) in
-    step-noted else.before.rule-size.ensures else.if1.false
+    let least = figure_is a.leasts.now a.left 0 (omega arith) in
+    step_noted else.before.rule_size.ensures else.if1.false
     (omega (arith, c.if2.false, c.before.before.cap.ensures, least))
 
 pub size-settles-spec : {M : Type 1} → statement M

@@ -7,8 +7,8 @@ use lib.ListN.{length}
 use Rattle.grammar.specs.Words.{Grammar}
 use Rattle.layout.specs.View.{View}
 use Rattle.leasts.specs.LeastSteps.{Settled, KeptFrom}
-use Rattle.layout.proofs.RulesInside.{inside, left-within, nonterminals-within}
-use Rattle.leasts.proofs.RuleSizes.{settled-more, unsettled, kept_more}
+use Rattle.layout.proofs.RulesInside.{inside, left_within, nonterminals_within}
+use Rattle.leasts.proofs.RuleSizes.{settled_more, unsettled, kept_more}
 use native.Mathlib.Omega.{arith}
 use borrow.Author.Rules.{rules}
 use Rattle.leasts.proofs.sizes.sizes_settle.Statement.{statement}
@@ -55,7 +55,7 @@ size-settles-requires c κs =
     let at = read.before.index.ensures in
     let view = start.before.requires.1.1 in
     let room = start.before.requires.0.1 in
-    ((search rules, left-within view (omega arith) at room, nonterminals-within view room), omega arith)
+    ((search rules, left_within view (omega arith) at room, nonterminals_within view room), omega arith)
 
 same_length : tie.Need-same-length invariant-loop decreases-loop
 same_length c = search rules
@@ -70,8 +70,8 @@ returns c =
     let low : index.before.before.loop.r < 256 = omega (arith, below, few) in
     let at = index.index.ensures in (
       λ g view.
-          unsettled view at right.right.ensures.0 (omega (arith, below)) settled.size-settles.ensures c.if1.true,
-      kept_more (omega (arith, below)) index.before.before.loop.invariant.3 settled.size-settles.ensures,
+          unsettled view at right.right.ensures.0 (omega (arith, below)) settled.size_settles.ensures c.if1.true,
+      kept_more (omega (arith, below)) index.before.before.loop.invariant.3 settled.size_settles.ensures,
     )
 
 add_r : tie.Need-overflow-add-r invariant-loop decreases-loop
@@ -93,9 +93,9 @@ loop-again c =
       omega arith,
       search rules,
       λ g view.
-          settled-more view at right.right.ensures.0 (omega (arith, few, loop.invariant.1)) settled.size-settles.ensures
+          settled_more view at right.right.ensures.0 (omega (arith, few, loop.invariant.1)) settled.size_settles.ensures
           c.if1.false (loop.invariant.2 g view),
-      kept_more (omega (arith, below)) loop.invariant.3 settled.size-settles.ensures,
+      kept_more (omega (arith, below)) loop.invariant.3 settled.size_settles.ensures,
     )
 
 same-length-2 : tie.Need-same-length-2 invariant-loop decreases-loop

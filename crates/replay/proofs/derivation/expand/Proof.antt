@@ -3,7 +3,7 @@
 use native.Mathlib.Omega.{arith}
 use Prim.Native.Nat.{◌<◌}
 use lib.ListN.{length}
-use Rattle.replay.proofs.ReplayStepped.{none_left, no-rule, other-rule, openable, opens, opens-bounded}
+use Rattle.replay.proofs.ReplayStepped.{none_left, no_rule, other_rule, openable, opens, opens_bounded}
 use borrow.Author.Rules.{rules}
 use Rattle.replay.proofs.derivation.expand.Statement.{statement}
 use Rattle.replay.proofs.derivation.expand.Tie as tie
@@ -27,7 +27,7 @@ returns-2 c =
     let start = c.before.before.before.before.before.before.before in
     let p = start.before.requires in
     let more : start.before.args.form.next < length start.before.args.list.now = omega (arith, c.before.before.before.if1.false) in
-    (tt, λ g n view below. no-rule p.1.1 p.0 view below c.before.wide.ensures more (omega arith))
+    (tt, λ g n view below. no_rule p.1.1 p.0 view below c.before.wide.ensures more (omega arith))
 
 index-requires : tie.Need-index-requires
 index-requires c κs = search rules
@@ -71,7 +71,7 @@ returns-3 c =
     let more : start.before.args.form.next < length start.before.args.list.now = omega (arith, read.before.before.if1.false) in
     let at = found.index.ensures in
     let other = rw at at c.if3.true in
-    (tt, λ g n view below. other-rule p.1.1 p.0 view below read.wide.ensures more l (λ e. other e))
+    (tt, λ g n view below. other_rule p.1.1 p.0 view below read.wide.ensures more l (λ e. other e))
 
 open-rule-requires : tie.Need-open-rule-requires
 open-rule-requires c κs =
@@ -104,7 +104,7 @@ returns-4 c =
     let at = found.index.ensures in
     let same = rw at at same_left.if3.false in
     let opened = rw at at at-open-rule.open-rule.ensures in (
-      opens-bounded kept p.0 ground k l more opened (search rules),
+      opens_bounded kept p.0 ground k l more opened (search rules),
       λ g n view below. opens kept p.0 view below read.wide.ensures more l same opened,
     )
 

@@ -5,9 +5,9 @@ use native.Mathlib.Omega.{arith}
 use lib.ListN.{length}
 use Rattle.grammar.specs.Words.{Grammar}
 use Rattle.layout.specs.View.{View}
-use Rattle.replay.specs.ReplaySteps.{WithinBounds, toDo}
-use Rattle.replay.proofs.ReplayStepped.{passes_kept, passes-no-more}
-use Rattle.replay.proofs.ReplayRun.{Held, held_start, kept-start, onward, held-passed, held_on, held-end, held-stop}
+use Rattle.replay.specs.ReplaySteps.{WithinBounds, to_do}
+use Rattle.replay.proofs.ReplayStepped.{passes_kept, passes_no_more}
+use Rattle.replay.proofs.ReplayRun.{Held, held_start, kept_start, onward, held_passed, held_on, held_end, held_stop}
 use borrow.Author.Rules.{rules}
 use Rattle.replay.proofs.derivation.run.Statement.{statement}
 use Rattle.replay.proofs.derivation.run.Tie as tie
@@ -18,12 +18,12 @@ invariant-loop words places n rules list stack₀ sentence₀ form₀ stack sent
     ((g : Grammar) → View words places n rules g → Held g words list stack form sentence₀ sentence)
 
 abbrev decreases-loop : tie.decreases-loop
-decreases-loop words places n rules list stack₀ sentence₀ form₀ stack sentence form = toDo words list stack form
+decreases-loop words places n rules list stack₀ sentence₀ form₀ stack sentence form = to_do words list stack form
 
 loop-holds : tie.Need-loop-init invariant-loop decreases-loop
 loop-holds c =
     let p = c.before.before.before.before.before.requires in
-    (kept-start p.1.0 p.1.1, refl, refl, λ g view. held_start g view _ _ _)
+    (kept_start p.1.0 p.1.1, refl, refl, λ g view. held_start g view _ _ _)
 
 pass-tokens-requires : tie.Need-pass-tokens-requires invariant-loop decreases-loop
 pass-tokens-requires c κs = search rules
@@ -43,7 +43,7 @@ loop-less c =
     let stepped = c.before.before.before.before.before in
     let past = stepped.before.before.before.before in
     let less = (onward _ c.before.more.given.1 stepped.step.ensures.0).less in
-    omega (arith, less, passes-no-more past.before.before.loop.invariant.0 past.pass-tokens.ensures)
+    omega (arith, less, passes_no_more past.before.before.loop.invariant.0 past.pass-tokens.ensures)
 
 loop-again : tie.Need-loop-preserved invariant-loop decreases-loop
 loop-again c =
@@ -56,7 +56,7 @@ loop-again c =
       (onward _ e z.0).kept,
       search rules,
       search rules,
-      λ g view. held_on (held-passed (inv.3 g view) inv.0 view p) _ _ (z.1 g _ view p.stops) e,
+      λ g view. held_on (held_passed (inv.3 g view) inv.0 view p) _ _ (z.1 g _ view p.stops) e,
     )
 
 enum-known-tokens : tie.Need-enum-known-tokens invariant-loop decreases-loop
@@ -76,7 +76,7 @@ returns c =
     let p = past.pass-tokens.ensures in
     let turned = stepped.step.ensures.1 in
     let e = c.before.tokens.given.1 in
-    λ g view. record { ended = held-end (held-passed (inv.3 g view) inv.0 view p) _ _ (turned g _ view p.stops) e }
+    λ g view. record { ended = held_end (held_passed (inv.3 g view) inv.0 view p) _ _ (turned g _ view p.stops) e }
 
 enum-known-place : tie.Need-enum-known-place invariant-loop decreases-loop
 enum-known-place c = search rules
@@ -95,7 +95,7 @@ returns-2 c =
     let p = past.pass-tokens.ensures in
     let turned = stepped.step.ensures.1 in
     let e = c.before.place.given.1 in
-    λ g view. record { ended = held-stop (held-passed (inv.3 g view) inv.0 view p) _ _ (turned g _ view p.stops) e }
+    λ g view. record { ended = held_stop (held_passed (inv.3 g view) inv.0 view p) _ _ (turned g _ view p.stops) e }
 
 pub run_spec : {M : Type 1} → statement M
 run_spec =

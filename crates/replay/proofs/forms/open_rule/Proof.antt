@@ -3,7 +3,7 @@ use Prim.Native.Nat.{ℕ, ◌+◌, ◌*◌}
 use native.Mathlib.Omega.{arith}
 use mathlib.Core.Path.{ap, ◌∙◌}
 use lib.ListN.{set}
-use Rattle.replay.proofs.FormSteps.{opened, opened-last}
+use Rattle.replay.proofs.FormSteps.{opened, opened_last}
 use borrow.Author.Rules.{rules}
 use Rattle.replay.proofs.forms.open_rule.Statement.{statement}
 use Rattle.replay.proofs.forms.open_rule.Tie as tie
@@ -30,7 +30,7 @@ returns : tie.Need-returns
 returns c =
     let start = c.before.before.before.before.before.before.before in
     let a = start.args in
-    opened-last a.words.now a.stack.now a.form a.at start.requires (omega (arith, c.if1.true))
+    opened_last a.words.now a.stack.now a.form a.at start.requires (omega (arith, c.if1.true))
     c.before.before.before.wide.ensures
 
 add-narrow : tie.Need-overflow-add-narrow

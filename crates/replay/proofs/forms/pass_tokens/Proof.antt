@@ -6,7 +6,7 @@ use mathlib.Core.Logic.{⊎_elim}
 use lib.ListN.{length}
 use lib.Seq.{sets, length-sets}
 use Rattle.replay.specs.Forms.{side}
-use Rattle.replay.proofs.FormSteps.{sets-out, passed}
+use Rattle.replay.proofs.FormSteps.{sets_out, passed}
 use borrow.Author.Rules.{rules}
 use Rattle.replay.proofs.forms.pass_tokens.Statement.{statement}
 use Rattle.replay.proofs.forms.pass_tokens.Tie as tie
@@ -56,7 +56,7 @@ returns-2 c =
     let o = a.form in
     let ts = side a.words.now o.at (end.result - o.at) in
     let stored : j.sentence ≡ sets a.sentence.now o.tokens ts =
-    ⊎_elim (λ w. w.5 ∙ w.2.ensures) (λ w. w.1 ∙ sym (sets-out ts a.sentence.now o.tokens w.0.left)) j.branch in
+    ⊎_elim (λ w. w.5 ∙ w.2.ensures) (λ w. w.1 ∙ sym (sets_out ts a.sentence.now o.tokens w.0.left)) j.branch in
     passed o end.ensures refl refl stored
 
 pub pass-tokens-spec : {M : Type 1} → statement M

@@ -7,7 +7,7 @@ use mathlib.Core.List.{List}
 use lib.ListN.{length, get_or, set}
 use lib.Seq.{sets}
 use Rattle.replay.specs.Forms.{side}
-use Rattle.replay.proofs.FormSteps.{stored-none, stored_next}
+use Rattle.replay.proofs.FormSteps.{stored_none, stored_next}
 use borrow.Author.Rules.{rules}
 use Rattle.replay.proofs.forms.put_words.Statement.{statement}
 use Rattle.replay.proofs.forms.put_words.Tie as tie
@@ -23,7 +23,7 @@ decreases-loop words from end sentence₀ tokens at₀ to₀ sentence at to = en
 loop-holds : tie.Need-loop-init invariant-loop decreases-loop
 loop-holds c =
     let a = c.before.before.args in
-    (search rules, search rules, search rules, refl, stored-none a.words.now a.sentence.now a.from a.tokens)
+    (search rules, search rules, search rules, refl, stored_none a.words.now a.sentence.now a.from a.tokens)
 
 mul-put : tie.Need-overflow-mul-put invariant-loop decreases-loop
 mul-put c = search rules

@@ -7,7 +7,7 @@ use mathlib.Core.List.{List}
 use lib.ListN.{length, get_or, set}
 use lib.Seq.{sets}
 use Rattle.replay.specs.Forms.{side, TokensEnd}
-use Rattle.replay.proofs.FormSteps.{Tokens, tokens-more, stored-none, stored_next, passed}
+use Rattle.replay.proofs.FormSteps.{Tokens, tokens_more, stored_none, stored_next, passed}
 use borrow.Author.Rules.{rules}
 use Rattle.replay.proofs.forms.store_tokens.Statement.{statement}
 use Rattle.replay.proofs.forms.store_tokens.Tie as tie
@@ -31,7 +31,7 @@ loop-holds c =
       search rules,
       refl,
       λ j b l. absurd (omega arith),
-      stored-none a.words.now a.sentence.now a.form.at a.form.tokens,
+      stored_none a.words.now a.sentence.now a.form.at a.form.tokens,
     )
 
 mul-symbol : tie.Need-overflow-mul-symbol invariant-loop decreases-loop
@@ -54,7 +54,7 @@ returns c =
     let at = c.before.before.before.before.loop in
     let a = c.before.before.before.before.before.before.before.before.args in
     let end : TokensEnd a.words.now a.n a.form.at (a.form.at + a.form.left) at.at = record {
-      not-before = search rules;
+      not_before = search rules;
       not_after = search rules;
       tokens = at.invariant.4;
       stops = λ _. omega (arith, c.if1.true, c.before.wide.ensures);
@@ -90,7 +90,7 @@ loop-again c =
       search rules,
       search rules,
       search rules,
-      tokens-more ws a.n a.form.at at.at at.invariant.4 here,
+      tokens_more ws a.n a.form.at at.at at.invariant.4 here,
       stored,
     )
 
@@ -102,7 +102,7 @@ returns-2 c =
     let at = c.before.loop in
     let a = c.before.before.before.before.before.args in
     let end : TokensEnd a.words.now a.n a.form.at (a.form.at + a.form.left) at.at = record {
-      not-before = search rules;
+      not_before = search rules;
       not_after = search rules;
       tokens = at.invariant.4;
       stops = λ l. absurd (omega arith);

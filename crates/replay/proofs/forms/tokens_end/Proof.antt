@@ -3,7 +3,7 @@
 use Prim.Native.Nat.{◌+◌, ◌-◌, ◌≤◌}
 use native.Mathlib.Omega.{arith}
 use mathlib.Core.Path.{◌≡◌}
-use Rattle.replay.proofs.FormSteps.{Tokens, tokens-more}
+use Rattle.replay.proofs.FormSteps.{Tokens, tokens_more}
 use borrow.Author.Rules.{rules}
 use Rattle.replay.proofs.forms.tokens_end.Statement.{statement}
 use Rattle.replay.proofs.forms.tokens_end.Tie as tie
@@ -32,7 +32,7 @@ cast-if1 c = omega (arith, c.shared-slice-known.given c.before.before.loop.i)
 returns : tie.Need-returns invariant-loop decreases-loop
 returns c =
     let at = c.before.before.before.loop in
-    record { not-before = search rules; not_after = search rules; tokens = at.invariant.2; stops = λ _. c.if1.true }
+    record { not_before = search rules; not_after = search rules; tokens = at.invariant.2; stops = λ _. c.if1.true }
 
 add-if2 : tie.Need-overflow-add-if2 invariant-loop decreases-loop
 add-if2 c = search rules
@@ -54,9 +54,9 @@ returns-2 c =
     let at = c.before.before.before.before.before.loop in
     let a = c.before.before.before.before.before.before.args in
     record {
-      not-before = search rules;
+      not_before = search rules;
       not_after = search rules;
-      tokens = tokens-more a.words.now a.n a.from at.i at.invariant.2 c.before.before.if1.false;
+      tokens = tokens_more a.words.now a.n a.from at.i at.invariant.2 c.before.before.if1.false;
       stops = λ _. c.if2.true;
     }
 
@@ -70,15 +70,15 @@ loop-again : tie.Need-loop-preserved invariant-loop decreases-loop
 loop-again c =
     let at = c.before.before.before.before.before.loop in
     let a = c.before.before.before.before.before.before.args in
-    let one = tokens-more a.words.now a.n a.from at.i at.invariant.2 c.before.before.if1.false in
-    let two = tokens-more a.words.now a.n a.from (at.i + 1) one c.if2.false in
+    let one = tokens_more a.words.now a.n a.from at.i at.invariant.2 c.before.before.if1.false in
+    let two = tokens_more a.words.now a.n a.from (at.i + 1) one c.if2.false in
     let e : at.i + 2 ≡ at.i + 1 + 1 = omega arith in
     (search rules, search rules, rw e two)
 
 returns-3 : tie.Need-returns-3 invariant-loop decreases-loop
 returns-3 c =
     let at = c.before.before.loop in
-    record { not-before = search rules; not_after = search rules; tokens = at.invariant.2; stops = λ l. absurd (omega arith) }
+    record { not_before = search rules; not_after = search rules; tokens = at.invariant.2; stops = λ l. absurd (omega arith) }
 
 mul-if4 : tie.Need-overflow-mul-if4 invariant-loop decreases-loop
 mul-if4 c = search rules
@@ -92,15 +92,15 @@ cast-if4 c = omega (arith, c.shared-slice-known3.given c.before.before.before.lo
 returns-4 : tie.Need-returns-4 invariant-loop decreases-loop
 returns-4 c =
     let at = c.before.before.before.before.loop in
-    record { not-before = search rules; not_after = search rules; tokens = at.invariant.2; stops = λ _. c.if4.true }
+    record { not_before = search rules; not_after = search rules; tokens = at.invariant.2; stops = λ _. c.if4.true }
 
 returns-5 : tie.Need-returns-5 invariant-loop decreases-loop
 returns-5 c =
     let at = c.before.before.before.before.loop in
     let a = c.before.before.before.before.before.args in
-    let one = tokens-more a.words.now a.n a.from at.i at.invariant.2 c.if4.false in
+    let one = tokens_more a.words.now a.n a.from at.i at.invariant.2 c.if4.false in
     let e : a.end ≡ at.i + 1 = omega arith in
-    record { not-before = search rules; not_after = search rules; tokens = rw e one; stops = λ l. absurd (omega arith) }
+    record { not_before = search rules; not_after = search rules; tokens = rw e one; stops = λ l. absurd (omega arith) }
 
 pub tokens-end-spec : {M : Type 1} → statement M
 tokens-end-spec =

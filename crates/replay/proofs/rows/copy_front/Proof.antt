@@ -8,7 +8,7 @@ use lib.ListN.{length, take, drop, get_or, set}
 use lib.Seq.{length-take-le}
 use borrow.Author.Rules.{rules}
 use Rattle.answers.specs.Buffers.{over}
-use Rattle.answers.proofs.WrittenFromFront.{store-next}
+use Rattle.answers.proofs.WrittenFromFront.{store_next}
 use Rattle.replay.proofs.rows.copy_front.Statement.{statement}
 use Rattle.replay.proofs.rows.copy_front.Tie as tie
 
@@ -51,7 +51,7 @@ loop-again c =
     let p = c.before.before.before.requires in
     let kept = at.invariant.2 in
     let stored = ap (λ (l : List ℕ). set l at.i (get_or a.from.now at.i 0)) at.invariant.1 in
-    let next = store-next a.from.now a.to.now at.i (omega (arith, p.0)) (omega (arith, p.1)) in
+    let next = store_next a.from.now a.to.now at.i (omega (arith, p.0)) (omega (arith, p.1)) in
     (search rules, stored ∙ next, search rules)
 
 same_length : tie.Need-same-length invariant-loop decreases-loop

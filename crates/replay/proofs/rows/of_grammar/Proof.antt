@@ -1,12 +1,12 @@
 -- `replay::rows::of_grammar` meets its contract: row 12, or what the list comes to. Assumes nothing.
 use borrow.Author.Rules.{rules}
 use native.Mathlib.Omega.{arith}
-use Rattle.replay.specs.Replay.{row-12}
+use Rattle.replay.specs.Replay.{row_12}
 use Rattle.replay.proofs.rows.of_grammar.Statement.{statement}
 use Rattle.replay.proofs.rows.of_grammar.Tie as tie
 
 returns : tie.Need-returns
-returns c = row-12 c.before.before.before.before.before.requires.1.is (omega arith)
+returns c = row_12 c.before.before.before.before.before.requires.1.is (omega arith)
 
 of-few-requires : tie.Need-of-few-requires
 of-few-requires c κs = (c.before.before.before.before.before.before.before.requires, omega (arith, c.before.if2.true))

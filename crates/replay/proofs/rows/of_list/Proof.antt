@@ -3,14 +3,14 @@
 use borrow.Author.Rules.{rules}
 use native.Mathlib.Omega.{arith}
 use mathlib.Core.Path.{refl}
-use Rattle.replay.proofs.ReplayRun.{ground, three-words, answers-11, answers-3, answers-aside, answers-done}
+use Rattle.replay.proofs.ReplayRun.{ground, three_words, answers_11, answers_3, answers_aside, answers_done}
 use Rattle.replay.proofs.rows.of_list.Statement.{statement}
 use Rattle.replay.proofs.rows.of_list.Tie as tie
 
 run-requires : tie.Need-run-requires
 run-requires c κs =
     let ((g, view), (few, room)) = c.before.before.before.before.before.before.before.before.requires in
-    (ground view few, (three-words view, room))
+    (ground view few, (three_words view, room))
 
 enum-known-place : tie.Need-enum-known-place
 enum-known-place c = search rules
@@ -28,7 +28,7 @@ returns : tie.Need-returns
 returns c =
     let ran = c.before.before.before.before.before.before.before.before in
     let ((g, view), (few, room)) = ran.before.before.before.before.before.before.before.before.before.requires in
-    answers-3 view few (ran.run.ensures g view) c.before.before.tokens.given.1 (omega arith) refl
+    answers_3 view few (ran.run.ensures g view) c.before.before.tokens.given.1 (omega arith) refl
 
 copy-front-requires : tie.Need-copy-front-requires
 copy-front-requires c κs = search rules
@@ -49,14 +49,14 @@ returns-2 c =
     let counted = fits.before.before.before in
     let ran = counted.before.before.before.before.before.before in
     let ((g, view), (few, room)) = ran.before.before.before.before.before.before.before.before.before.requires in
-    answers-aside view few (ran.run.ensures g view) counted.tokens.given.1 (omega (arith, fits.if2.true))
+    answers_aside view few (ran.run.ensures g view) counted.tokens.given.1 (omega (arith, fits.if2.true))
     (omega (arith, fits.before.if1.false)) copied.copy-front.ensures refl
 
 run-requires-2 : tie.Need-run-requires-2
 run-requires-2 c κs =
     let ran = c.before.before.before.before.before.before.before.before.before.before.before in
     let ((g, view), (few, room)) = ran.before.before.before.before.before.before.before.before.before.requires in
-    (ground view few, (three-words view, search rules))
+    (ground view few, (three_words view, search rules))
 
 same-length-6 : tie.Need-same-length-6
 same-length-6 c = search rules
@@ -68,7 +68,7 @@ returns-3 : tie.Need-returns-3
 returns-3 c =
     let ran = c.before.before.before.before.before.before.before in
     let ((g, view), (few, room)) = ran.before.before.before.before.before.before.before.before.before.requires in
-    answers-11 view few (ran.run.ensures g view) c.before.place.given.1 refl
+    answers_11 view few (ran.run.ensures g view) c.before.place.given.1 refl
 
 same-length-8 : tie.Need-same-length-8
 same-length-8 c = search rules
@@ -88,7 +88,7 @@ returns-4 c =
     let ((g, view), (few, room)) = ran.before.before.before.before.before.before.before.before.before.requires in
     let first = ran.run.ensures g view in
     let second = written.run2.ensures g view in
-    answers-done view few first counted.tokens.given.1 (omega (arith, other.before.if1.false)) second refl
+    answers_done view few first counted.tokens.given.1 (omega (arith, other.before.if1.false)) second refl
 
 pub of-list-spec : {M : Type 1} → statement M
 of-list-spec =

@@ -23,7 +23,7 @@ loop-holds c = (omega arith, λ k h. absurd (omega arith))
 
 loop-again : tie.Need-loop-preserved invariant-loop decreases-loop
 loop-again c =
-    let tested = c.before.choice-passes in (
+    let tested = c.before.choice_passes in (
       omega arith,
       below_more _ _ c.before.before.before.loop.invariant.1 (λ g view.
           told tested.result (tested.ensures g view) c.if1.true),
@@ -31,7 +31,7 @@ loop-again c =
 
 returns : tie.Need-returns invariant-loop decreases-loop
 returns c g view p =
-    let tested = c.before.choice-passes in
+    let tested = c.before.choice_passes in
     let here = p c.before.before.before.loop.a (omega (arith, view.nonterminals)) in
     refuted tested.result (tested.ensures g view) c.if1.false here
 

@@ -4,14 +4,14 @@ use mathlib.Core.Path.{◌∙◌, sym, ap}
 use Prim.Native.Nat.{ℕ}
 use lib.ListN.{get_or}
 use Rattle.table_test.proofs.Telling.{says_same}
-use Rattle.table_test.proofs.RulesRead.{index_of, below-rules}
-use Rattle.table_test.proofs.ChoicesRead.{chosen-left, chosen-same}
+use Rattle.table_test.proofs.RulesRead.{index_of, below_rules}
+use Rattle.table_test.proofs.ChoicesRead.{chosen_left, chosen_same}
 use borrow.Author.Rules.{rules}
 use Rattle.table_test.proofs.passes.chosen_passes.Statement.{statement}
 use Rattle.table_test.proofs.passes.chosen_passes.Tie as tie
 
 returns : tie.Need-returns
-returns c g view p = omega (arith, below-rules view p.rule, c.before.chosen.ensures)
+returns c g view p = omega (arith, below_rules view p.rule, c.before.chosen.ensures)
 
 returns-2 : tie.Need-returns-2
 returns-2 c g view p =
@@ -19,7 +19,7 @@ returns-2 c g view p =
     let index = c.before.before in
     let found = index_of a.places.now index.index.ensures index.before.wide.ensures in
     let read = c.before.read.ensures ∙ ap (λ (x : ℕ). get_or a.words.now x 0) found in
-    c.if2.true (read ∙ chosen-left view a.table.now a.a c.before.before.before.before.before.chosen.ensures p)
+    c.if2.true (read ∙ chosen_left view a.table.now a.a c.before.before.before.before.before.chosen.ensures p)
 
 returns-3 : tie.Need-returns-3
 returns-3 c g view =
@@ -29,7 +29,7 @@ returns-3 c g view =
     let read = c.before.before.read.ensures ∙ ap (λ (x : ℕ). get_or a.words.now x 0) found in
     let chosen = c.before.before.before.before.before.before.chosen.ensures in
     says_same c.comes-to.result
-    (chosen-same view a.table.now a.a chosen (omega arith) (sym read ∙ c.before.if2.false))
+    (chosen_same view a.table.now a.a chosen (omega arith) (sym read ∙ c.before.if2.false))
     c.comes-to.ensures
 
 pub chosen-passes-spec : {M : Type 1} → statement M

@@ -2,15 +2,15 @@
 use native.Mathlib.Omega.{arith}
 use mathlib.Core.Path.{sym, ◌∙◌}
 use Rattle.grammar.specs.Certificates.{Holds}
-use Rattle.grammar.proofs.ContextsExist.{holds-below}
+use Rattle.grammar.proofs.ContextsExist.{holds_below}
 use Rattle.table_test.proofs.Telling.{says_eq}
-use Rattle.grammar.proofs.ContextsExist.{holds-there, held-there}
+use Rattle.grammar.proofs.ContextsExist.{holds_there, held_there}
 use borrow.Author.Rules.{rules}
 use Rattle.table_test.proofs.passes.holds.Statement.{statement}
 use Rattle.table_test.proofs.passes.holds.Tie as tie
 
 returns : tie.Need-returns
-returns c h = let a = c.before.before.args in omega (arith, holds-below a.symbols.now a.place a.a h)
+returns c h = let a = c.before.before.args in omega (arith, holds_below a.symbols.now a.place a.a h)
 
 returns-2 : tie.Need-returns-2
 returns-2 c =
@@ -18,7 +18,7 @@ returns-2 c =
     let w = a.symbols.now in
     let read = c.read.ensures in
     says_eq {P = Holds w a.place a.a} c.read.result a.a
-    (λ e. rw (sym read ∙ e) at (holds-there w a.place (omega arith))) (λ d h. d (read ∙ held-there w a.place a.a h))
+    (λ e. rw (sym read ∙ e) at (holds_there w a.place (omega arith))) (λ d h. d (read ∙ held_there w a.place a.a h))
 
 pub holds-spec : {M : Type 1} → statement M
 holds-spec = tie.close (tie.spec returns (λ c κs. search rules) returns-2)

@@ -1,6 +1,6 @@
 -- `table_test::passes::start_passes` meets its contract: one entry after the other. Assumes nothing.
 use native.Mathlib.Omega.{arith}
-use Rattle.entries.specs.Table.{noChoice}
+use Rattle.entries.specs.Table.{no_choice}
 use Rattle.table_test.proofs.Telling.{says_eq}
 use Rattle.table_test.specs.Passes.{StartPasses}
 use borrow.Author.Rules.{rules}
@@ -16,7 +16,7 @@ returns-2 c = λ p. omega (arith, p.rule)
 returns-3 : tie.Need-returns-3
 returns-3 c =
     let a = c.before.before.before.before.before.before.args in
-    says_eq {P = StartPasses a.table.now a.a} c.place.result noChoice
+    says_eq {P = StartPasses a.table.now a.a} c.place.result no_choice
     (λ e. record { context = omega arith; rule = omega arith; place = omega arith }) (λ d p. d (omega (arith, p.place)))
 
 pub start-passes-spec : {M : Type 1} → statement M

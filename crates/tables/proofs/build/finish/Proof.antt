@@ -2,7 +2,7 @@
 -- nothing.
 use mathlib.Core.Path.{refl}
 use native.Mathlib.Omega.{arith}
-use Rattle.layout.proofs.WordsRead.{view-few}
+use Rattle.layout.proofs.WordsRead.{view_few}
 use Rattle.tables.proofs.Outcomes.{all_placed, finished}
 use borrow.Author.Rules.{rules}
 use Rattle.tables.proofs.build.finish.Statement.{statement}
@@ -12,7 +12,7 @@ slice-aggregate-choose-rules : tie.Need-slice-aggregate-choose-rules
 slice-aggregate-choose-rules c = search rules
 
 choose-rules-requires : tie.Need-choose-rules-requires
-choose-rules-requires c κs = omega (arith, view-few c.before.before.before.before.before.before.requires.0.view)
+choose-rules-requires c κs = omega (arith, view_few c.before.before.before.before.before.before.requires.0.view)
 
 slice-aggregate-choose-leads : tie.Need-slice-aggregate-choose-leads
 slice-aggregate-choose-leads c = search rules
@@ -20,7 +20,7 @@ slice-aggregate-choose-leads c = search rules
 choose-leads-requires : tie.Need-choose-leads-requires
 choose-leads-requires c κs =
     let p = c.before.before.before.before.before.before.before.before.before.requires.0 in
-    let few = view-few p.view in
+    let few = view_few p.view in
     (omega (arith, few), (p.grammar, p.view))
 
 slice-aggregate-fill : tie.Need-slice-aggregate-fill
@@ -34,7 +34,7 @@ fill-requires c κs =
     let chosen = c.before.before.before.before.before.before.before.before in
     let start = chosen.before.before.before.before.before.before in
     let p = start.requires.0 in
-    let few = view-few p.view in
+    let few = view_few p.view in
     ((omega (arith, few), omega (arith, few), start.requires.1), all_placed p (omega (arith, few)) (omega (arith, few)))
 
 same_length : tie.Need-same-length

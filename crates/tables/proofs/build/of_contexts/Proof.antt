@@ -1,8 +1,8 @@
 -- `tables::build::of_contexts` meets its contract: rows 7 and 3, or the table, by Outcomes. Assumes nothing.
 use mathlib.Core.Path.{◌∙◌}
 use native.Mathlib.Omega.{arith}
-use Rattle.layout.proofs.WordsRead.{view-few}
-use Rattle.tables.proofs.Outcomes.{refuses-7, refuses-3, finishes}
+use Rattle.layout.proofs.WordsRead.{view_few}
+use Rattle.tables.proofs.Outcomes.{refuses_7, refuses_3, finishes}
 use borrow.Author.Rules.{rules}
 use Rattle.tables.proofs.build.of_contexts.Statement.{statement}
 use Rattle.tables.proofs.build.of_contexts.Tie as tie
@@ -11,7 +11,7 @@ slice-aggregate-rule-totals : tie.Need-slice-aggregate-rule-totals
 slice-aggregate-rule-totals c = search rules
 
 rule-totals-requires : tie.Need-rule-totals-requires
-rule-totals-requires c κs = omega (arith, view-few c.before.before.before.before.before.before.requires.view)
+rule-totals-requires c κs = omega (arith, view_few c.before.before.before.before.before.before.requires.view)
 
 slice-aggregate-first-above : tie.Need-slice-aggregate-first-above
 slice-aggregate-first-above c = search rules
@@ -30,7 +30,7 @@ returns c =
     let searched = c.before.before.before.before in
     let summed = searched.before.before.before in
     let p = summed.before.before.before.before.before.before.before.requires in
-    refuses-7 p (summed.rule-totals.ensures p.grammar _ p.view) (search rules) searched.first_above.ensures
+    refuses_7 p (summed.rule-totals.ensures p.grammar _ p.view) (search rules) searched.first_above.ensures
     c.before.before.r.given.1 c.refuse.ensures
 
 enum_told : tie.Need-enum-told
@@ -54,10 +54,10 @@ returns-2 c =
     let searched = told.before.before in
     let summed = searched.before.before.before in
     let p = summed.before.before.before.before.before.before.before.requires in
-    let few = view-few p.view in
+    let few = view_few p.view in
     let n = c.before.before.before.before.narrow.ensures.1 (omega (arith, few)) in
     let rules = c.before.before.before.narrow2.ensures.1 (omega (arith, few)) in
-    refuses-3 p (summed.rule-totals.ensures p.grammar _ p.view) (search rules) searched.first_above.ensures
+    refuses_3 p (summed.rule-totals.ensures p.grammar _ p.view) (search rules) searched.first_above.ensures
     told.enum_told.given.1 (c.before.before.length.ensures ∙ rw (n, rules)) c.before.if1.true c.refuse2.ensures
 
 finish-requires : tie.Need-finish-requires
@@ -65,7 +65,7 @@ finish-requires c κs =
     let long = c.before.before.before in
     let summed = long.before.before.before.before.before.before.before.before in
     let p = summed.before.before.before.before.before.before.before.requires in
-    let few = view-few p.view in
+    let few = view_few p.view in
     let n = long.before.before.narrow.ensures.1 (omega (arith, few)) in
     let rules = long.before.narrow2.ensures.1 (omega (arith, few)) in
     (p, omega (arith, long.length.ensures, n, rules, c.before.before.if1.false))
@@ -80,7 +80,7 @@ returns-3 c =
     let searched = told.before.before in
     let summed = searched.before.before.before in
     let p = summed.before.before.before.before.before.before.before.requires in
-    let few = view-few p.view in
+    let few = view_few p.view in
     let n = long.before.before.narrow.ensures.1 (omega (arith, few)) in
     let rules = long.before.narrow2.ensures.1 (omega (arith, few)) in
     finishes p (summed.rule-totals.ensures p.grammar _ p.view) (search rules) searched.first_above.ensures

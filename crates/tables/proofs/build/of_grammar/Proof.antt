@@ -1,7 +1,7 @@
 -- `tables::build::of_grammar` meets its contract: row 5, or every nonterminal has a least, by Outcomes.
 -- Assumes nothing.
 use borrow.Author.Rules.{rules}
-use Rattle.tables.proofs.Outcomes.{refuses-5, grown}
+use Rattle.tables.proofs.Outcomes.{refuses_5, grown}
 use Rattle.tables.proofs.build.of_grammar.Statement.{statement}
 use Rattle.tables.proofs.build.of_grammar.Tie as tie
 
@@ -21,7 +21,7 @@ returns : tie.Need-returns
 returns c =
     let searched = c.before.before.before.before in
     let p = searched.before.before.before.before.before.requires in
-    refuses-5 p.grammar p.view p.first p.figures searched.first_above.ensures c.before.before.a.given.1
+    refuses_5 p.grammar p.view p.first p.figures searched.first_above.ensures c.before.before.a.given.1
     c.refuse.ensures
 
 enum_told : tie.Need-enum-told

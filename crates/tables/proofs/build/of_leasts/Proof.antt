@@ -4,17 +4,17 @@ use mathlib.Core.Path.{refl}
 use native.Mathlib.Omega.{arith}
 use borrow.Author.Rules.{rules}
 use lib.ListN.{length-set}
-use Rattle.layout.proofs.WordsRead.{view-few}
+use Rattle.layout.proofs.WordsRead.{view_few}
 use Rattle.tables.specs.ContextSteps.{LeastsKnown}
-use Rattle.tables.proofs.Outcomes.{start-few, contexts-start, refuses-6, placed}
+use Rattle.tables.proofs.Outcomes.{start_few, contexts_start, refuses_6, placed}
 use Rattle.tables.proofs.build.of_leasts.Statement.{statement}
 use Rattle.tables.proofs.build.of_leasts.Tie as tie
 
 mul-contexts : tie.Need-overflow-mul-contexts
-mul-contexts c = omega (arith, start-few c.before.before.before.before.requires)
+mul-contexts c = omega (arith, start_few c.before.before.before.before.requires)
 
 array-write-contexts : tie.Need-array-write-contexts
-array-write-contexts c = start-few c.before.before.before.before.requires
+array-write-contexts c = start_few c.before.before.before.before.requires
 
 slice-aggregate-context-rounds : tie.Need-slice-aggregate-context-rounds
 slice-aggregate-context-rounds c = search rules
@@ -22,8 +22,8 @@ slice-aggregate-context-rounds c = search rules
 context-rounds-requires : tie.Need-context-rounds-requires
 context-rounds-requires c κs =
     let p = c.before.before.before.before.before.requires in
-    let few = view-few p.view in
-    let known : LeastsKnown _ _ _ _ _ _ p.grammar = record { view = p.view; done = p.leasts; sized = p.sizes-are } in
+    let few = view_few p.view in
+    let known : LeastsKnown _ _ _ _ _ _ p.grammar = record { view = p.view; done = p.leasts; sized = p.sizes_are } in
     ((omega (arith, few), simp length-set (search rules)), (p.grammar, known))
 
 slice-aggregate-first-above : tie.Need-slice-aggregate-first-above
@@ -46,8 +46,8 @@ returns c =
     let searched = c.before.before.before.before in
     let rounds = searched.before.before.before in
     let p = rounds.before.before.before.before.before.before.requires in
-    let rest = rounds.context-rounds.ensures p.grammar p.view p.leasts p.sizes-are (contexts-start p refl) in
-    refuses-6 p rest searched.first_above.ensures c.before.before.a.given.1 c.refuse.ensures
+    let rest = rounds.context-rounds.ensures p.grammar p.view p.leasts p.sizes_are (contexts_start p refl) in
+    refuses_6 p rest searched.first_above.ensures c.before.before.a.given.1 c.refuse.ensures
 
 enum_told : tie.Need-enum-told
 enum_told c = search rules
@@ -60,7 +60,7 @@ of-contexts-requires c κs =
     let searched = c.before.before.before.before in
     let rounds = searched.before.before.before in
     let p = rounds.before.before.before.before.before.before.requires in
-    let rest = rounds.context-rounds.ensures p.grammar p.view p.leasts p.sizes-are (contexts-start p refl) in
+    let rest = rounds.context-rounds.ensures p.grammar p.view p.leasts p.sizes_are (contexts_start p refl) in
     placed p rest searched.first_above.ensures c.before.before.enum_told.given.1
 
 same_length : tie.Need-same-length

@@ -6,12 +6,12 @@ use native.Mathlib.Omega.{arith}
 use borrow.Author.Rules.{rules}
 use lib.ListN.{length}
 use Rattle.grammar.specs.Words.{Grammar}
-use Rattle.layout.specs.Rules.{rightAt}
-use Rattle.grammar.proofs.LayoutExact.{in_bounds, rule-short}
+use Rattle.layout.specs.Rules.{right_at}
+use Rattle.grammar.proofs.LayoutExact.{in_bounds, rule_short}
 use Rattle.tables.specs.Choices.{NoChoices, LeadsOf}
-use Rattle.tables.proofs.FirstsNoted.{firsts-empty, empty-room}
+use Rattle.tables.proofs.FirstsNoted.{firsts_empty, empty_room}
 use Rattle.layout.specs.View.{View}
-use Rattle.layout.proofs.RulesInView.{viewed-rule, viewed-right, viewed-room}
+use Rattle.layout.proofs.RulesInView.{viewed_rule, viewed_right, viewed_room}
 use Rattle.tables.proofs.choices.choose_leads.Statement.{statement}
 use Rattle.tables.proofs.choices.choose_leads.Tie as tie
 
@@ -26,7 +26,7 @@ decreases-loop words places n rules leasts contexts totals leads₀ r₀ leads r
 loop-holds : tie.Need-loop-init invariant-loop decreases-loop
 loop-holds c =
     let a = c.before.before.before.before.before.args in
-    (omega arith, refl, λ g view empty. firsts-empty _ g.N a.leads.now empty (viewed-room view (omega arith)))
+    (omega arith, refl, λ g view empty. firsts_empty _ g.N a.leads.now empty (viewed_room view (omega arith)))
 
 index-requires : tie.Need-index-requires invariant-loop decreases-loop
 index-requires c κs = search rules
@@ -47,9 +47,9 @@ choose-leads-of-requires c κs =
     let loop = c.before.before.before.before.before.loop in
     let start = c.before.before.before.before.before.before.before.before.before.before in
     let (g, view) = start.before.requires.1 in
-    let (A, w, rule) = viewed-rule view loop.r (omega arith) in
-    let short = rule-short (in_bounds start.before.args.words.now view.is) rule in
-    let is = right.ensures.0 ∙ ap (rightAt start.before.args.words.now) at.ensures ∙ viewed-right view rule in
+    let (A, w, rule) = viewed_rule view loop.r (omega arith) in
+    let short = rule_short (in_bounds start.before.args.words.now view.is) rule in
+    let is = right.ensures.0 ∙ ap (right_at start.before.args.words.now) at.ensures ∙ viewed_right view rule in
     (rw is short, omega arith)
 
 add_r : tie.Need-overflow-add-r invariant-loop decreases-loop
@@ -69,9 +69,9 @@ loop-again c =
       omega arith,
       chose.auto.1.1.1.1.1.1.0 ∙ loop.invariant.1,
       λ g view empty.
-          let (A, w, rule) = viewed-rule view loop.r (omega arith) in
-          let read = right.ensures.0 ∙ ap (rightAt a.words.now) at.ensures ∙ viewed-right view rule in
-          let room = empty-room a.leads.now empty in
+          let (A, w, rule) = viewed_rule view loop.r (omega arith) in
+          let read = right.ensures.0 ∙ ap (right_at a.words.now) at.ensures ∙ viewed_right view rule in
+          let room = empty_room a.leads.now empty in
           chose.ensures g A a.totals.now (in_bounds a.words.now view.is) view.nonterminals (rw read rule) refl
           (omega (arith, loop.invariant.1)) (loop.invariant.2 g view empty),
     )

@@ -9,7 +9,7 @@ use borrow.Author.Rules.{rules}
 use lib.ListN.{length, get_or}
 use Rattle.grammar.specs.Words.{Grammar, RuleAt, InBounds}
 use Rattle.tables.specs.Choices.{LeadsOf}
-use Rattle.tables.proofs.LeadsChosen.{place-chosen, places-end}
+use Rattle.tables.proofs.LeadsChosen.{place_chosen, places_end}
 use Rattle.tables.proofs.choices.choose_leads_of.Statement.{statement}
 use Rattle.tables.proofs.choices.choose_leads_of.Tie as tie
 
@@ -63,7 +63,7 @@ loop-again c =
       λ g B totals ok n-is rule t-is room before.
           let so_far = loop.invariant.2 g B totals ok n-is rule t-is room before in
           let noted = rw (n-is, t-is) at chose.ensures in
-          place-chosen g ok a.leasts.now a.contexts.now totals rule loop.leads loop.i so_far _ (omega arith) refl
+          place_chosen g ok a.leasts.now a.contexts.now totals rule loop.leads loop.i so_far _ (omega arith) refl
           noted (omega arith) (omega (arith, loop.invariant.1)),
     )
 
@@ -75,7 +75,7 @@ returns c g B totals ok n-is rule t-is room before =
     let loop = c.before.loop in
     let a = c.before.before.before.before.before.before.args in
     let so_far = loop.invariant.2 g B totals ok n-is rule t-is room before in
-    places-end g ok a.leasts.now a.contexts.now totals rule loop.leads loop.i so_far (omega arith) (omega arith)
+    places_end g ok a.leasts.now a.contexts.now totals rule loop.leads loop.i so_far (omega arith) (omega arith)
 
 pub choose-leads-of-spec : {M : Type 1} → statement M
 choose-leads-of-spec =

@@ -7,10 +7,10 @@ use borrow.Author.Rules.{rules}
 use lib.ListN.{length, get_or}
 use Rattle.grammar.specs.Words.{Grammar}
 use Rattle.tables.specs.Choices.{NoChoices, ChosenOf}
-use Rattle.tables.proofs.FirstsNoted.{firsts-empty, empty-room}
+use Rattle.tables.proofs.FirstsNoted.{firsts_empty, empty_room}
 use Rattle.layout.specs.View.{View}
-use Rattle.layout.proofs.RulesInView.{viewed-room}
-use Rattle.tables.proofs.RulesChosen.{rule-chosen}
+use Rattle.layout.proofs.RulesInView.{viewed_room}
+use Rattle.tables.proofs.RulesChosen.{rule_chosen}
 use Rattle.tables.proofs.choices.choose_rules.Statement.{statement}
 use Rattle.tables.proofs.choices.choose_rules.Tie as tie
 
@@ -27,7 +27,7 @@ loop-holds c =
     let a = c.before.before.before.before.args in (
       omega arith,
       refl,
-      λ g n view empty. firsts-empty _ g.N a.chosen.now empty (viewed-room view (omega arith)),
+      λ g n view empty. firsts_empty _ g.N a.chosen.now empty (viewed_room view (omega arith)),
     )
 
 index-requires : tie.Need-index-requires invariant-loop decreases-loop
@@ -64,11 +64,11 @@ loop-again c =
       omega arith,
       chose.auto.1.1.1.1.0 ∙ loop.invariant.1,
       λ g n view empty.
-          let room = empty-room a.chosen.now empty in
+          let room = empty_room a.chosen.now empty in
           let left = word.ensures ∙ ap (λ (p : ℕ). get_or a.words.now p 0) at.ensures in
           let noted = rw left at chose.ensures in
           let so_far = loop.invariant.2 g n view empty in
-          rule-chosen view a.leasts.now a.sizes.now loop.r (omega arith) noted (omega (arith, loop.invariant.1))
+          rule_chosen view a.leasts.now a.sizes.now loop.r (omega arith) noted (omega (arith, loop.invariant.1))
           (omega arith) so_far,
     )
 

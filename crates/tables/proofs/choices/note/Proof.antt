@@ -4,7 +4,7 @@ use native.Mathlib.Omega.{arith}
 use borrow.Author.Rules.{rules}
 use lib.ListN.{length}
 use Rattle.tables.specs.Choices.{noted, kept}
-use Rattle.figures.proofs.FiguresFall.{figure-is}
+use Rattle.figures.proofs.FiguresFall.{figure_is}
 use Rattle.tables.proofs.choices.note.Statement.{statement}
 use Rattle.tables.proofs.choices.note.Tie as tie
 
@@ -27,10 +27,10 @@ returns : tie.Need-returns
 returns c =
     let a = c.before.before.before.args in
     let h : a.a < length a.numbers.now = omega arith in
-    noted h (omega (arith, figure-is a.numbers.now a.a 0 h))
+    noted h (omega (arith, figure_is a.numbers.now a.a 0 h))
 
 returns-2 : tie.Need-returns-2
-returns-2 c = let a = c.before.before.before.args in kept (λ h has. omega (arith, figure-is a.numbers.now a.a 0 h))
+returns-2 c = let a = c.before.before.before.args in kept (λ h has. omega (arith, figure_is a.numbers.now a.a 0 h))
 
 returns-3 : tie.Need-returns-3
 returns-3 c = kept (λ h. absurd (omega arith))

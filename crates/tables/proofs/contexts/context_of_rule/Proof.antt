@@ -7,7 +7,7 @@ use borrow.Author.Rules.{rules}
 use lib.ListN.{length, set}
 use Rattle.figures.specs.Figures.{figure}
 use Rattle.tables.specs.ContextSteps.{PlacesStep, ContextStep, as_seen, unseen}
-use Rattle.figures.proofs.FiguresFall.{figure-is}
+use Rattle.figures.proofs.FiguresFall.{figure_is}
 use Rattle.tables.proofs.contexts.context_of_rule.Statement.{statement}
 use Rattle.tables.proofs.contexts.context_of_rule.Tie as tie
 
@@ -32,8 +32,8 @@ slice-read-if1 c = search rules
 returns : tie.Need-returns
 returns c =
     let a = c.before.before.before.before.before.before.before.args in
-    let e = figure-is a.contexts.now a.left 0 (omega arith) in
-    as_seen (omega (arith, e, figure-is a.seen.now a.r 0 (omega arith)))
+    let e = figure_is a.contexts.now a.left 0 (omega arith) in
+    as_seen (omega (arith, e, figure_is a.seen.now a.r 0 (omega arith)))
 
 mul-seen : tie.Need-overflow-mul-seen
 mul-seen c = search rules
@@ -68,8 +68,8 @@ returns-2 c =
     let l = c.before.before in
     let known = l.before.before.before.before.before.before in
     let a = known.before.before.before.before.args in
-    let is = figure-is a.contexts.now a.left 0 (omega arith) in
-    let was = figure-is a.seen.now a.r 0 (omega arith) in
+    let is = figure_is a.contexts.now a.left 0 (omega arith) in
+    let was = figure_is a.seen.now a.r 0 (omega arith) in
     let small = known.slice-known2.given a.left in
     unseen-read is (omega (arith, l.before.before.widened.ensures)) (omega arith) (omega (arith, small))
     (λ e. omega (arith, e, was)) l.lower-contexts.ensures

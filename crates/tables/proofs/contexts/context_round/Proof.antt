@@ -3,7 +3,7 @@
 use Prim.Native.Nat.{◌-◌, ◌≤◌}
 use native.Mathlib.Omega.{arith}
 use lib.ListN.{length}
-use Rattle.tables.proofs.SeenRounds.{SeenSoFar, none_seen, one-more-seen, all_seen}
+use Rattle.tables.proofs.SeenRounds.{SeenSoFar, none_seen, one_more_seen, all_seen}
 use borrow.Author.Rules.{rules}
 use Rattle.tables.proofs.contexts.context_round.Statement.{statement}
 use Rattle.tables.proofs.contexts.context_round.Tie as tie
@@ -47,7 +47,7 @@ loop-again c =
     let at = in-turn.before.before in
     let e = turned.context-turn.ensures in
     let kept = turned.context-turn.auto in
-    one-more-seen _ _ _ _ _ _ (omega arith) at.before.loop.invariant in-turn.in-turn.ensures.0 kept.1.1.1.1.1.1.1.1.0
+    one_more_seen _ _ _ _ _ _ (omega arith) at.before.loop.invariant in-turn.in-turn.ensures.0 kept.1.1.1.1.1.1.1.1.0
     kept.1.1.1.1.1.0 e.0.0 e.0.1 e.1
 
 same_length : tie.Need-same-length invariant-loop decreases-loop

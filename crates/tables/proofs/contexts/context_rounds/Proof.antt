@@ -7,7 +7,7 @@ use lib.ListN.{length}
 use Rattle.grammar.specs.Words.{Grammar}
 use Rattle.figures.specs.Weights.{weight}
 use Rattle.tables.specs.ContextSteps.{LeastsKnown}
-use Rattle.tables.proofs.SeenRounds.{SeenRounds, rounds-none, rounds-more, outset}
+use Rattle.tables.proofs.SeenRounds.{SeenRounds, rounds_none, rounds_more, outset}
 use borrow.Author.Rules.{rules}
 use Rattle.tables.proofs.contexts.context_rounds.Statement.{statement}
 use Rattle.tables.proofs.contexts.context_rounds.Tie as tie
@@ -27,7 +27,7 @@ note-rules-requires : tie.Need-note-rules-requires invariant-loop decreases-loop
 note-rules-requires c κs = search rules
 
 loop-holds : tie.Need-loop-init invariant-loop decreases-loop
-loop-holds c = (refl, search rules, λ g known. rounds-none g _ _ _)
+loop-holds c = (refl, search rules, λ g known. rounds_none g _ _ _)
 
 slice-aggregate-context-round : tie.Need-slice-aggregate-context-round invariant-loop decreases-loop
 slice-aggregate-context-round c = search rules
@@ -51,7 +51,7 @@ loop-again c =
     let kept = last.context-round.auto in (
       kept.1.1.1.1.1.1.1.1.0 ∙ at.loop.invariant.0,
       kept.1.1.1.1.1.0 ∙ at.loop.invariant.1,
-      λ g known. rounds-more g _ (at.loop.invariant.2 g known) (last.context-round.ensures.1 g known),
+      λ g known. rounds_more g _ (at.loop.invariant.2 g known) (last.context-round.ensures.1 g known),
     )
 
 same_length : tie.Need-same-length invariant-loop decreases-loop
@@ -63,7 +63,7 @@ returns c g view done sized sound =
     let stands = outset g _ sound refl in
     record {
       sound = (rounds.keeps stands).sound;
-      quiet = λ k h. rounds.rests (omega arith) stands k (omega (arith, view.all-rules));
+      quiet = λ k h. rounds.rests (omega arith) stands k (omega (arith, view.all_rules));
     }
 
 pub context-rounds-spec : {M : Type 1} → statement M

@@ -5,9 +5,9 @@ use mathlib.Core.Path.{refl}
 use native.Mathlib.Omega.{arith}
 use lib.ListN.{length}
 use Rattle.figures.specs.Weights.{weight}
-use Rattle.tables.proofs.ContextsFall.{context-fallen}
-use Rattle.tables.proofs.ContextRounds.{ContextsFollowed, followed-none, followed-more, followed-end}
-use Rattle.tables.proofs.ContextRounds.{followed-turn, followed-out, left-room}
+use Rattle.tables.proofs.ContextsFall.{context_fallen}
+use Rattle.tables.proofs.ContextRounds.{ContextsFollowed, followed_none, followed_more, followed_end}
+use Rattle.tables.proofs.ContextRounds.{followed_turn, followed_out, left_room}
 use borrow.Author.Rules.{rules}
 use Rattle.tables.proofs.contexts.context_turn.Statement.{statement}
 use Rattle.tables.proofs.contexts.context_turn.Tie as tie
@@ -20,7 +20,7 @@ abbrev decreases-loop : tie.decreases-loop
 decreases-loop words places counts sizes owned seen₀ first leasts contexts₀ fell₀ r₀ seen contexts fell r = weight contexts
 
 loop-holds : tie.Need-loop-init invariant-loop decreases-loop
-loop-holds c = followed-none _ _
+loop-holds c = followed_none _ _
 
 index-requires : tie.Need-index-requires invariant-loop decreases-loop
 index-requires c κs = search rules
@@ -49,7 +49,7 @@ context-of-rule-requires c κs =
     let small : at.loop.r < 256 = omega (arith, p.0.0, below) in
     let long : 128 ≤ length at.loop.contexts = omega (arith, p.0.1.1.1, at.loop.invariant.same_length) in
     let room : at.loop.r < length at.loop.seen = omega (arith, small, p.0.1.1.0, at.loop.invariant.same_seen) in
-    (right.right.ensures.1, (left-room known below long index.index.ensures word.word.ensures, room))
+    (right.right.ensures.1, (left_room known below long index.index.ensures word.word.ensures, room))
 
 same_length : tie.Need-same-length invariant-loop decreases-loop
 same_length c = search rules
@@ -67,9 +67,9 @@ returns c =
     let p = at.before.before.before.before.before.before.before.requires in
     let below = index.before.if1.true in
     let long : 128 ≤ length at.loop.contexts = omega (arith, p.0.1.1.1, at.loop.invariant.same_length) in (
-      followed-end at.loop.invariant below long index.index.ensures word.word.ensures right.right.ensures.0 refl
+      followed_end at.loop.invariant below long index.index.ensures word.word.ensures right.right.ensures.0 refl
           lowered.context-of-rule.ensures c.if2.true,
-      followed-turn at.loop.invariant below long index.index.ensures word.word.ensures right.right.ensures.0 refl
+      followed_turn at.loop.invariant below long index.index.ensures word.word.ensures right.right.ensures.0 refl
           lowered.context-of-rule.ensures c.if2.true,
     )
 
@@ -82,7 +82,7 @@ figure-at-requires c κs = search rules
 loop-less : tie.Need-loop-smaller invariant-loop decreases-loop
 loop-less c =
     let else = c.before.before in
-    omega (arith, context-fallen else.before.before.before.before.before.context-of-rule.ensures, else.if2.false)
+    omega (arith, context_fallen else.before.before.before.before.before.context-of-rule.ensures, else.if2.false)
 
 loop-again : tie.Need-loop-preserved invariant-loop decreases-loop
 loop-again c =
@@ -96,7 +96,7 @@ loop-again c =
     let below = index.before.if1.true in
     let long : 128 ≤ length at.loop.contexts = omega (arith, p.0.1.1.1, at.loop.invariant.same_length) in
     let kept = lowered.context-of-rule.auto.1.1.1.1.1 in
-    followed-more at.loop.invariant below long index.index.ensures word.word.ensures right.right.ensures.0 refl
+    followed_more at.loop.invariant below long index.index.ensures word.word.ensures right.right.ensures.0 refl
     lowered.context-of-rule.ensures _ kept.1.1.0 kept.0 else.if2.false
 
 same-length-3 : tie.Need-same-length-3 invariant-loop decreases-loop
@@ -109,7 +109,7 @@ returns-2 : tie.Need-returns-2 invariant-loop decreases-loop
 returns-2 c =
     let inv = c.before.before.loop.invariant in
     let p = c.before.before.before.before.before.before.before.before.before.requires in
-    ((inv.once, inv.fallen), followed-out inv p.0.1.0 c.if1.false)
+    ((inv.once, inv.fallen), followed_out inv p.0.1.0 c.if1.false)
 
 pub context-turn-spec : {M : Type 1} → statement M
 context-turn-spec =

@@ -11,7 +11,7 @@ use borrow.Author.Rules.{rules}
 use lib.ListN.{length, drop, drop_of_length-le, get_or}
 use lib.Seq.{drop-cons}
 use Rattle.tables.specs.ContextSteps.{PlaceStep, PlacesStep, no_symbol, symbol}
-use Rattle.tables.proofs.ContextsFall.{place-once}
+use Rattle.tables.proofs.ContextsFall.{place_once}
 use Rattle.tables.proofs.contexts.lower_contexts.Statement.{statement}
 use Rattle.tables.proofs.contexts.lower_contexts.Tie as tie
 
@@ -46,7 +46,7 @@ lower-context-requires : tie.Need-lower-context-requires invariant-loop decrease
 lower-context-requires c κs = search rules
 
 add-fell : tie.Need-overflow-add-fell invariant-loop decreases-loop
-add-fell c = omega (arith, place-once c.before.before.lower-context.ensures)
+add-fell c = omega (arith, place_once c.before.before.lower-context.ensures)
 
 add-i : tie.Need-overflow-add-i invariant-loop decreases-loop
 add-i c = search rules
@@ -60,7 +60,7 @@ loop-again c =
     let a = l.before.before.before.before.args in
     let step = c.before.before.lower-context.ensures in (
       search rules,
-      omega (arith, place-once step),
+      omega (arith, place_once step),
       omega arith,
       λ us f ps. rw add_assoc (l.loop.invariant.3 us _ (from_place a.symbols.now l.loop.i (omega arith) step ps)),
     )

@@ -6,15 +6,15 @@ use native.Mathlib.Omega.{arith}
 use borrow.Author.Rules.{rules}
 use lib.ListN.{length, length-set, get_or}
 use Rattle.figures.specs.Figures.{figure}
-use Rattle.figures.proofs.WrittenInOrder.{written-more}
-use Rattle.tables.proofs.RuleTotals.{totalAt, totals-of}
+use Rattle.figures.proofs.WrittenInOrder.{written_more}
+use Rattle.tables.proofs.RuleTotals.{total_at, totals_of}
 use Rattle.tables.proofs.contexts.rule_totals.Statement.{statement}
 use Rattle.tables.proofs.contexts.rule_totals.Tie as tie
 
 abbrev invariant-loop : tie.invariant-loop
 invariant-loop words places rules sizes contexts totals₀ r₀ totals r =
     (r ≤ rules) × (length totals ≡ length totals₀) ×
-    ((k : ℕ) → k < r → get_or totals k 0 ≡ totalAt words places sizes contexts k)
+    ((k : ℕ) → k < r → get_or totals k 0 ≡ total_at words places sizes contexts k)
 
 abbrev decreases-loop : tie.decreases-loop
 decreases-loop words places rules sizes contexts totals₀ r₀ totals r = rules - r
@@ -68,7 +68,7 @@ loop-again c =
     let context = at.figure-at.ensures.0 ∙ ap (figure a.contexts.now) left in (
       omega arith,
       simp length-set loop.loop.invariant.1,
-      written-more (λ k x. x ≡ totalAt a.words.now a.places.now a.sizes.now a.contexts.now k)
+      written_more (λ k x. x ≡ total_at a.words.now a.places.now a.sizes.now a.contexts.now k)
           loop.loop.totals (omega arith) (omega (arith, context)) loop.loop.invariant.2,
     )
 
@@ -79,7 +79,7 @@ returns : tie.Need-returns invariant-loop decreases-loop
 returns c g n view =
     let loop = c.before in
     let a = loop.before.before.before.before.before.args in
-    totals-of view a.sizes.now a.contexts.now loop.loop.totals (λ k h. loop.loop.invariant.2 k (omega arith))
+    totals_of view a.sizes.now a.contexts.now loop.loop.totals (λ k h. loop.loop.invariant.2 k (omega arith))
 
 pub rule-totals-spec : {M : Type 1} → statement M
 rule-totals-spec =

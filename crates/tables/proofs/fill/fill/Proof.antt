@@ -1,6 +1,6 @@
 -- `tables::fill::fill` meets its contract: the entries of the nonterminals, then the totals. Assumes nothing.
-use Rattle.entries.proofs.EntriesWritten.{all-entered, all-written}
-use Rattle.tables.specs.Filling.{foundIn}
+use Rattle.entries.proofs.EntriesWritten.{all_entered, all_written}
+use Rattle.tables.specs.Filling.{found_in}
 use borrow.Author.Rules.{rules}
 use Rattle.tables.proofs.fill.fill.Statement.{statement}
 use Rattle.tables.proofs.fill.fill.Tie as tie
@@ -19,11 +19,11 @@ returns c =
     let start = c.before.before.before.before.before.before.before.before.before.before.before.before.before in
     let room = start.requires.0.2 in
     let a = start.args in
-    let F = foundIn a.leasts.now a.chosen.now a.contexts.now a.leads.now a.totals.now in
+    let F = found_in a.leasts.now a.chosen.now a.contexts.now a.leads.now a.totals.now in
     let entered = c.before.before.before.before.before.before.fill-entries.ensures a.totals.now a.rules room in
-    all-written a.n a.rules F a.table.now room
+    all_written a.n a.rules F a.table.now room
     (c.before.before.fill-totals.ensures a.leasts.now a.chosen.now a.contexts.now a.leads.now a.table.now
-    room (all-entered a.n a.rules F a.table.now room entered))
+    room (all_entered a.n a.rules F a.table.now room entered))
 
 pub fill_spec : {M : Type 1} → statement M
 fill_spec =

@@ -5,11 +5,11 @@ use mathlib.Core.Path.{◌≡◌, refl, ap, ◌∙◌}
 use mathlib.Core.List.{List}
 use lib.ListN.{length}
 use native.Mathlib.Omega.{arith}
-use Rattle.entries.specs.Table.{lengthFor}
-use Rattle.entries.specs.Writing.{withEntries, enteredTo}
+use Rattle.entries.specs.Table.{length_for}
+use Rattle.entries.specs.Writing.{with_entries, entered_to}
 use Rattle.entries.specs.declared.Entries.{Entries}
-use Rattle.entries.proofs.EntriesWritten.{none-entered, enter-next}
-use Rattle.tables.specs.Filling.{foundIn}
+use Rattle.entries.proofs.EntriesWritten.{none_entered, enter_next}
+use Rattle.tables.specs.Filling.{found_in}
 use borrow.Author.Rules.{rules}
 use Rattle.tables.proofs.fill.fill_entries.Statement.{statement}
 use Rattle.tables.proofs.fill.fill_entries.Tie as tie
@@ -17,8 +17,8 @@ use Rattle.tables.proofs.fill.fill_entries.Tie as tie
 abbrev invariant-loop : tie.invariant-loop
 invariant-loop n leasts chosen contexts leads table₀ a₀ table a =
     (a ≤ n) × (length table ≡ length table₀) ×
-    ((totals : List ℕ) (rules : ℕ) → lengthFor n rules ≤ length table₀ →
-    table ≡ enteredTo n rules (foundIn leasts chosen contexts leads totals) table₀ a)
+    ((totals : List ℕ) (rules : ℕ) → length_for n rules ≤ length table₀ →
+    table ≡ entered_to n rules (found_in leasts chosen contexts leads totals) table₀ a)
 
 abbrev decreases-loop : tie.decreases-loop
 decreases-loop n leasts chosen contexts leads table₀ a₀ table a = n - a
@@ -28,8 +28,8 @@ loop-holds c =
     let a = c.before.before.before.before.before.args in (
       omega arith,
       refl,
-      λ totals rules room. none-entered a.n rules
-          (foundIn a.leasts.now a.chosen.now a.contexts.now a.leads.now totals) a.table.now,
+      λ totals rules room. none_entered a.n rules
+          (found_in a.leasts.now a.chosen.now a.contexts.now a.leads.now totals) a.table.now,
     )
 
 narrow-requires : tie.Need-narrow-requires invariant-loop decreases-loop
@@ -40,10 +40,10 @@ entries-of-requires c κs =
     let p = c.before.before.before.before.before.before.before.before.before.requires.1 in
     let below = c.before.before.loop-test.true in
     record {
-      of-leasts = omega (arith, below, p.of-leasts);
-      of-chosen = omega (arith, below, p.of-chosen);
-      of-contexts = omega (arith, below, p.of-contexts);
-      of-leads = omega (arith, below, p.of-leads);
+      of_leasts = omega (arith, below, p.of_leasts);
+      of_chosen = omega (arith, below, p.of_chosen);
+      of_contexts = omega (arith, below, p.of_contexts);
+      of_leads = omega (arith, below, p.of_leads);
     }
 
 write-requires : tie.Need-write-requires invariant-loop decreases-loop
@@ -56,7 +56,7 @@ loop-less : tie.Need-loop-smaller invariant-loop decreases-loop
 loop-less c = search rules
 
 loop-again : tie.Need-loop-preserved invariant-loop decreases-loop
-unfolding foundIn
+unfolding found_in
 loop-again c =
     let loop = c.before.before.before.before.before.before.before.loop in
     let a = c.before.before.before.before.before.before.before.before.before.before.before.before.before.args in
@@ -65,12 +65,12 @@ loop-again c =
     let at = c.before.before.before.before.narrow.ensures.1 (omega (arith, below, few)) in
     let stored =
     c.before.before.write.ensures ∙
-    ap (λ (k : ℕ). withEntries loop.table k c.before.before.before.entries-of.result) at ∙
-    ap (λ (e : Entries). withEntries loop.table loop.a e) c.before.before.before.entries-of.ensures in (
+    ap (λ (k : ℕ). with_entries loop.table k c.before.before.before.entries-of.result) at ∙
+    ap (λ (e : Entries). with_entries loop.table loop.a e) c.before.before.before.entries-of.ensures in (
       omega arith,
       search rules,
       λ totals rules room.
-          enter-next a.n rules (foundIn a.leasts.now a.chosen.now a.contexts.now a.leads.now totals)
+          enter_next a.n rules (found_in a.leasts.now a.chosen.now a.contexts.now a.leads.now totals)
           a.table.now room loop.a below (loop.invariant.2 totals rules room) stored,
     )
 

@@ -5,10 +5,10 @@ use mathlib.Core.Path.{◌≡◌, refl, ap, ◌∙◌}
 use mathlib.Core.List.{List}
 use lib.ListN.{length, get_or}
 use native.Mathlib.Omega.{arith}
-use Rattle.entries.specs.Table.{lengthFor}
-use Rattle.entries.specs.Writing.{withTotal, totalledTo}
-use Rattle.entries.proofs.EntriesWritten.{total-next}
-use Rattle.tables.specs.Filling.{foundIn}
+use Rattle.entries.specs.Table.{length_for}
+use Rattle.entries.specs.Writing.{with_total, totalled_to}
+use Rattle.entries.proofs.EntriesWritten.{total_next}
+use Rattle.tables.specs.Filling.{found_in}
 use borrow.Author.Rules.{rules}
 use Rattle.tables.proofs.fill.fill_totals.Statement.{statement}
 use Rattle.tables.proofs.fill.fill_totals.Tie as tie
@@ -16,9 +16,9 @@ use Rattle.tables.proofs.fill.fill_totals.Tie as tie
 abbrev invariant-loop : tie.invariant-loop
 invariant-loop n rules totals table₀ r₀ table r =
     (r ≤ rules) × (length table ≡ length table₀) ×
-    ((leasts chosen contexts leads before : List ℕ) → lengthFor n rules ≤ length before →
-    table₀ ≡ totalledTo n rules (foundIn leasts chosen contexts leads totals) before 0 →
-    table ≡ totalledTo n rules (foundIn leasts chosen contexts leads totals) before r)
+    ((leasts chosen contexts leads before : List ℕ) → length_for n rules ≤ length before →
+    table₀ ≡ totalled_to n rules (found_in leasts chosen contexts leads totals) before 0 →
+    table ≡ totalled_to n rules (found_in leasts chosen contexts leads totals) before r)
 
 abbrev decreases-loop : tie.decreases-loop
 decreases-loop n rules totals table₀ r₀ table r = rules - r
@@ -48,7 +48,7 @@ loop-less : tie.Need-loop-smaller invariant-loop decreases-loop
 loop-less c = search rules
 
 loop-again : tie.Need-loop-preserved invariant-loop decreases-loop
-unfolding foundIn
+unfolding found_in
 loop-again c =
     let loop = c.before.before.before.before.before.before.before.before.loop in
     let a = c.before.before.before.before.before.before.before.before.before.before.args in
@@ -59,12 +59,12 @@ loop-again c =
     let total = get_or a.totals.now loop.r 0 in
     let stored =
     c.before.before.write-total.ensures ∙
-    ap (λ (k : ℕ). withTotal loop.table k c.before.before.before.before.narrow2.result total) n ∙
-    ap (λ (k : ℕ). withTotal loop.table a.n k total) r in (
+    ap (λ (k : ℕ). with_total loop.table k c.before.before.before.before.narrow2.result total) n ∙
+    ap (λ (k : ℕ). with_total loop.table a.n k total) r in (
       omega arith,
       search rules,
       λ leasts chosen contexts leads before room so_far.
-          total-next a.n a.rules (foundIn leasts chosen contexts leads a.totals.now) before room loop.r below
+          total_next a.n a.rules (found_in leasts chosen contexts leads a.totals.now) before room loop.r below
           (loop.invariant.2 leasts chosen contexts leads before room so_far) stored,
     )
 

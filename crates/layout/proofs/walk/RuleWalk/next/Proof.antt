@@ -40,7 +40,7 @@ use denote.Triple.Table.{entered, cited}
 use denote.Triple.Walked.{says, Stays, stay_none, walk_of, Goes-none, Walks, ends_at, walked, walk_Meets}
 use denote.Exit.{yes}
 use denote.Triple.Clauses.{ensured, lasts}
-use Rattle.layout.specs.Walk.{place_in, stepAt, walkPast, takenFrom}
+use Rattle.layout.specs.Walk.{place_in, step_at, walk_past, taken_from}
 use Rattle.layout.specs.declared.walk.RuleWalk.{RuleWalk}
 use Rattle.layout.specs.declared.walk.Step.{Step}
 use Rattle.layout.specs.declared.walk.Taken.{Taken}
@@ -94,10 +94,10 @@ module _ {M : Type 1} {𝓤 : Ura M} (𝓛 : Logic 𝓤) (mem : Memory → SProp
 
   -- what `stands_at` and `past` say of their results
   abbrev Found : Step → Type 0
-  Found t = t ≡ stepAt d.words.now (place_in d)
+  Found t = t ≡ step_at d.words.now (place_in d)
 
   abbrev Moved : RuleWalk → Type 0
-  Moved r = r ≡ walkPast d
+  Moved r = r ≡ walk_past d
 
   abbrev Post : Val → SProp 𝓤
   Post = (walk_of 𝓛 next.ended stayed (next.clauses 𝓛 mem run)).post
@@ -116,8 +116,8 @@ module _ {M : Type 1} {𝓤 : Ura M} (𝓛 : Logic 𝓤) (mem : Memory → SProp
   abbrev both : Val → Val → Val
   both u u' = vstruct (vcons u (vcons u' vnil))
 
-  is-taken : (t : Step) (r : RuleWalk) → Found t → Moved r → made t r ≡ takenFrom d
-  is-taken t r e f = ap (λ (x : Step). made x r) e ∙ ap (λ (x : RuleWalk). made (stepAt d.words.now (place_in d)) x) f
+  is-taken : (t : Step) (r : RuleWalk) → Found t → Moved r → made t r ≡ taken_from d
+  is-taken t r e f = ap (λ (x : Step). made x r) e ∙ ap (λ (x : RuleWalk). made (step_at d.words.now (place_in d)) x) f
 
   -- what it owns, field by field
   abbrev fields : Step → RuleWalk → List Val × (List Val × Unit {0}) → Fml

@@ -48,7 +48,7 @@ use denote.Triple.Table.{entered, cited}
 use denote.Triple.Walked.{says, Stays, stay_none, walk_of, Goes-none, Walks, ends_at, walked, walk_Meets}
 use denote.Exit.{yes}
 use denote.Triple.Clauses.{ensured, lasts}
-use Rattle.layout.specs.Walk.{WalkPlace, place, place_in, placeAfter, walkAt, walkPast}
+use Rattle.layout.specs.Walk.{WalkPlace, place, place_in, place_after, walk_at, walk_past}
 use Rattle.layout.specs.declared.walk.RuleWalk.{RuleWalk}
 use Rattle.layout.specs.contracts.walk.RuleWalk as T
 use Rattle.layout.proofs.walk.RuleWalk.TheLaws as T'
@@ -92,7 +92,7 @@ module _ {M : Type 1} {𝓤 : Ura M} (𝓛 : Logic 𝓤) (mem : Memory → SProp
   v = slice_val d.words.ref_ptr (length d.words.now)
 
   abbrev found : WalkPlace
-  found = placeAfter d.words.now (place_in d)
+  found = place_after d.words.now (place_in d)
 
   abbrev Post : Val → SProp 𝓤
   Post = (walk_of 𝓛 past.ended stayed (past.clauses 𝓛 mem run)).post
@@ -167,9 +167,9 @@ module _ {M : Type 1} {𝓤 : Ura M} (𝓛 : Logic 𝓤) (mem : Memory → SProp
 
   -- the walk at the index n, before rule m
   abbrev moved : ℕ → ℕ → RuleWalk
-  moved n m = walkAt d.words (place n m)
+  moved n m = walk_at d.words (place n m)
 
-  is-past : (n m : ℕ) → n ≡ found.at → m ≡ found.number → moved n m ≡ walkPast d
+  is-past : (n m : ℕ) → n ≡ found.at → m ≡ found.number → moved n m ≡ walk_past d
   is-past n m e f = ap (λ (x : ℕ). moved x m) e ∙ ap (λ (x : ℕ). moved found.at x) f
 
   exits : (n m : ℕ) (u : Val) → n ≡ found.at → m ≡ found.number → n < 2 ^ 64 → m < 2 ^ 64 →

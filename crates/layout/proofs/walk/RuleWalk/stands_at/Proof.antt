@@ -47,7 +47,7 @@ use denote.Triple.Table.{entered, cited}
 use denote.Triple.Walked.{says, Stays, stay_none, walk_of, Goes-none, Walks, ends_at, walked, walk_Meets}
 use denote.Exit.{yes}
 use denote.Triple.Clauses.{ensured, lasts}
-use Rattle.layout.specs.Walk.{stepAt, place_in}
+use Rattle.layout.specs.Walk.{step_at, place_in}
 use Rattle.layout.specs.declared.walk.RuleWalk.{RuleWalk}
 use Rattle.layout.specs.declared.walk.Step.{Step}
 use Rattle.layout.specs.contracts.walk.RuleWalk as T
@@ -87,7 +87,7 @@ module _ {M : Type 1} {𝓤 : Ura M} (𝓛 : Logic 𝓤) (mem : Memory → SProp
   v = slice_val d.words.ref_ptr (length d.words.now)
 
   abbrev found : Step
-  found = stepAt d.words.now (place_in d)
+  found = step_at d.words.now (place_in d)
 
   abbrev Post : Val → SProp 𝓤
   Post = (walk_of 𝓛 stands.ended stayed (stands.clauses 𝓛 mem run)).post

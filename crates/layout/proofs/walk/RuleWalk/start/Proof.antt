@@ -38,7 +38,7 @@ use denote.Triple.Spec.{Meets, triple_of}
 use denote.Triple.Table.{entered}
 use denote.Triple.Walked.{says, Stays, stay_none_slice, walk_of, Goes-none_slice, Walks, ends_at, walked, walk_Meets}
 use denote.Exit.{yes}
-use Rattle.layout.specs.Walk.{walkStart, walkAt}
+use Rattle.layout.specs.Walk.{walk_start, walk_at}
 use Rattle.layout.specs.declared.walk.RuleWalk.{RuleWalk}
 use Rattle.layout.specs.contracts.walk.RuleWalk as T
 use Rattle.layout.proofs.walk.RuleWalk.TheLaws as T'
@@ -62,7 +62,7 @@ module _ {M : Type 1} {𝓤 : Ura M} (𝓛 : Logic 𝓤) (mem : Memory → SProp
   v = slice_val s.ref_ptr (length s.now)
 
   abbrev made : RuleWalk
-  made = walkAt s walkStart
+  made = walk_at s walk_start
 
   abbrev at : List Val × Unit {0}
   at = (v ∷ [], tt)
