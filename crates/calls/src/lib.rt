@@ -5,6 +5,7 @@
 // A caller in another language owes what its slices say, and nothing checks it: each pointer is to so many elements, not null
 // even for none, and what is written through one overlaps nothing else that is lent. No call keeps anything, and no two calls
 // share anything.
+#![tactic(auto)]
 mod numbers;
 
 ghost use Rattle.calls.specs.Called.{UnpackCalled, PackCalled, TablesCalled, NextCalled, ReplayCalled};

@@ -1,6 +1,7 @@
 // What the programs that run the proved calls have in common but for printing: cases written as text, one a line; the parts of
 // a line, and the numbers that a part spells; and what lent buffers hold. Of these functions only bounds are promised: a program's
 // output is held to what the document asks, and shows a case that is read wrong.
+#![tactic(auto)]
 ghost use Rattle.std.specs.Prelude.{◌-◌, ◌≤◌, length};
 
 mod buffers;

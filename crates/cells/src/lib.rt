@@ -1,4 +1,6 @@
 // One word of lent memory, read and written where there is such an index; and a number as a word, and back. Assumes nothing.
+#![tactic(auto)]
+
 ghost use Rattle.std.specs.Prelude.{◌≡◌, ◌≤◌, ◌%◌, get_or, set};
 
 // The word at index i, and 0 past the end.

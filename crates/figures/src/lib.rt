@@ -1,6 +1,7 @@
 // Figures: numbers found so far, one word for each nonterminal, cut at 4,097. NO_FIGURE is none: none is found yet, and past the
 // end of the words there is none either. How one is read, lowered and searched for, and in which order rules are visited. Every
 // call answers for any words and any numbers; what each promises is specs/Figures.
+#![tactic(auto)]
 ghost use Rattle.std.specs.Prelude.{◌≡◌, ◌≤◌, ◌<◌};
 ghost use Rattle.figures.specs.Figures.{figure, capped, Lowered, FirstAbove, turn};
 

@@ -49,12 +49,16 @@ module _ {c : Cost} {g : Grammar} where
   sizes_unique (nonterminal p l h) (terminal q k) = absurd (omega arith)
   sizes_unique (nonterminal p l h) (nonterminal q m k) = let e = least_unique l m in let e' = sizes_unique h k in cc
 
+  -- stated at two symbols, so that the place's own one is not asked twice
+  beside_alike : {w : List ℕ} {i A B : ℕ} {x y : C} → Beside c g w i A x → Beside c g w i B y → x ≡ y
+  beside_alike (at_place p h) (at_place q k) = sizes_unique h k
+  beside_alike (past_terminal {s = s} p h) (past_terminal q k) = ap (λ d. tok s ⊕ d) (beside_alike h k)
+  beside_alike (past_terminal p h) (past_nonterminal q l k) = absurd (omega arith)
+  beside_alike (past_nonterminal p l h) (past_terminal q k) = absurd (omega arith)
+  beside_alike (past_nonterminal p l h) (past_nonterminal q m k) = let e = least_unique l m in let e' = beside_alike h k in cc
+
   pub beside_unique : {w : List ℕ} {i A : ℕ} {x y : C} → Beside c g w i A x → Beside c g w i A y → x ≡ y
-  beside_unique (at_place p h) (at_place q k) = sizes_unique h k
-  beside_unique (past_terminal {s = s} p h) (past_terminal q k) = ap (λ d. tok s ⊕ d) (beside_unique h k)
-  beside_unique (past_terminal p h) (past_nonterminal q l k) = absurd (omega arith)
-  beside_unique (past_nonterminal p l h) (past_terminal q k) = absurd (omega arith)
-  beside_unique (past_nonterminal p l h) (past_nonterminal q m k) = let e = least_unique l m in let e' = beside_unique h k in cc
+  beside_unique h k = beside_alike h k
 
   pub rule_size_unique : {A B k : ℕ} {x y : C} → RuleSize c g A k x → RuleSize c g B k y → x ≡ y
   rule_size_unique h k =

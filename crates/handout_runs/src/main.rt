@@ -1,6 +1,7 @@
 // Runs `replay` and `next` on each case of standard input, and prints the case's name and what the call answered and left in
 // the lent buffers. The files `stdin` and `stdout` are written by tests/reference/handout.py, which was written from the
 // document alone and says what a line means. Assumes nothing.
+#![tactic(auto)]
 mod buffers;
 mod nexts;
 mod nights;

@@ -1,6 +1,7 @@
 // The lines that the suite program prints, written into a lent buffer from an index on, as far as there is room; each function
 // answers the index past what it wrote. The text of each line is specs/Lines; what the buffer holds afterwards, and the index,
 // are specs/Room.
+#![tactic(auto)]
 ghost use Rattle.std.specs.Prelude.{◌≡◌, ◌∷◌, ◌++◌, [], ◌<◌, length};
 ghost use Rattle.lines.specs.Digits.{digit, decimal};
 ghost use Rattle.lines.specs.Lines.{space, spaced, suite_line, sentence_line, end_line, refused_line};

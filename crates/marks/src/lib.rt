@@ -1,5 +1,7 @@
 // The marks, an octet for each rule, 0 for unused: the lowest unused rule, and the setting of the marks of a derivation's rules.
 // What each call promises is specs/Marks. A rule that has no mark is unused, and there is nothing to set.
+#![tactic(auto)]
+
 ghost use Rattle.std.specs.Prelude.{[], ◌∷◌, take};
 ghost use Rattle.marks.specs.Marks.{FirstUnused, Marked};
 

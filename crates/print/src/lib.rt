@@ -1,5 +1,6 @@
 // Lines on standard output, for the programs that run the proved calls. Assumes nothing of its own. Whether a write
 // succeeds is not asked: a line that is missing shows in what the program is held to.
+#![tactic(auto)]
 use libc::STDOUT_FILENO;
 
 // The text as it is.

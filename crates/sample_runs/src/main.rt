@@ -1,6 +1,7 @@
 // Runs document 01's sample rows that are not marked P: `tables` of each row's words, and a line with the answer. The file
 // `stdout` has what the document says of them. (Those marked P are proved: crates/samples.) Words are written as crates/cases
 // reads them: 3*7 is 7 7 7, 3+7 is 7 8 9, and 4&7 is 0 7 0 8. Assumes nothing.
+#![tactic(auto)]
 use tables::TableAnswer;
 
 // More words than any of these grammars has, and than its table.

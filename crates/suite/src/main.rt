@@ -4,6 +4,7 @@
 // a buffer and say how much of it is to be written, and that the pieces joined are the document's text of the input is proved
 // (`whole_text`). Only `print_pieces` writes. A read that fails is the end of the input; after a write that fails nothing more is
 // written.
+#![tactic(auto)]
 ghost use Rattle.std.specs.Prelude.{◌≤◌, ◌≡◌, false, length};
 ghost use Rattle.entries.specs.Table.{most_table};
 ghost use Rattle.handout.specs.Next.{Lent};

@@ -1,6 +1,7 @@
 // Runs `tables` and then `test` on each case of standard input, and prints the case's name and both answers on one line.
 // The files `stdin` and `stdout` are written by tests/reference/tables.py, which was written from the document alone and
 // says what a line means. Assumes nothing.
+#![tactic(auto)]
 mod calls;
 
 fn main() {

@@ -1,6 +1,7 @@
 // The shortest-tree tables of a grammar: `tables` works one out from the leasts, by plain rounds over all rules. What the words of
 // a table mean is crate entries' specs/Table; what the call answers is specs/Promise. Whether a lent table is a grammar's is asked
 // of crate table_test.
+#![tactic(auto)]
 mod build;
 mod chains;
 mod choices;
