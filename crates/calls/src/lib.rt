@@ -6,6 +6,7 @@
 // even for none, and what is written through one overlaps nothing else that is lent. No call keeps anything, and no two calls
 // share anything.
 #![tactic(auto)]
+
 mod numbers;
 
 ghost use Rattle.calls.specs.Called.{UnpackCalled, PackCalled, TablesCalled, NextCalled, ReplayCalled};

@@ -2,6 +2,7 @@
 // a line, and the numbers that a part spells; and what lent buffers hold. Of these functions only bounds are promised: a program's
 // output is held to what the document asks, and shows a case that is read wrong.
 #![tactic(auto)]
+
 ghost use Rattle.std.specs.Prelude.{◌-◌, ◌≤◌, length};
 
 mod buffers;
@@ -11,12 +12,15 @@ pub use buffers::{UNTOUCHED, every, front, same, untouched};
 use number::first;
 pub use number::{MOST_SPELLED, least, numbers, octets, wide};
 
+// The file that is standard input.
+const STDIN: i32 = 0;
+
 // More octets than any program has on standard input.
 pub const MOST_TEXT: usize = 262144;
 
 // All of standard input, read into a lent buffer. Where that is filled there may be more: then a line says so, and nothing is read.
 pub fn read(buffer: &mut [u8]) -> &[u8] {
-    let length = io::read_full(libc::STDIN_FILENO, buffer);
+    let length = io::read_full(STDIN, buffer);
     let whole = &buffer[..];
     if length == whole.len() {
         print::text(b"input too long\n");

@@ -2,6 +2,7 @@
 // nonterminal and a rule are numbers of 16 bits, as words have them, so that every index can be counted; past the end of the
 // words an entry is 0, and nothing is written.
 #![tactic(auto)]
+
 ghost use Rattle.std.specs.Prelude.{◌≡◌, ◌<◌};
 ghost use Rattle.entries.specs.Table.{length_for, least_in, chosen_in, context_in, rule_in, place_in, total_in};
 ghost use Rattle.entries.specs.Writing.{with_entries, with_total};

@@ -2,6 +2,7 @@
 // end of the words there is none either. How one is read, lowered and searched for, and in which order rules are visited. Every
 // call answers for any words and any numbers; what each promises is specs/Figures.
 #![tactic(auto)]
+
 ghost use Rattle.std.specs.Prelude.{◌≡◌, ◌≤◌, ◌<◌};
 ghost use Rattle.figures.specs.Figures.{figure, capped, Lowered, FirstAbove, turn};
 

@@ -1,6 +1,7 @@
 // Runs `unpack` and `pack` on each case of standard input, and prints the case and the answer on one line. The file
 // `stdin` says how a case is written, and why its answer is what the file `stdout` has. Assumes nothing.
 #![tactic(auto)]
+
 mod calls;
 
 fn main() {

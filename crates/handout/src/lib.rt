@@ -1,6 +1,7 @@
 // Handing out sentences: `next`. What it promises is specs/Next, with its answers in specs/Answers, and when it gives each answer
 // specs/Given; what calls of it come to from clear marks on is specs/Night.
 #![tactic(auto)]
+
 mod answer;
 mod lister;
 mod tree_lister;

@@ -2,6 +2,7 @@
 // the lent buffers. The files `stdin` and `stdout` are written by tests/reference/handout.py, which was written from the
 // document alone and says what a line means. Assumes nothing.
 #![tactic(auto)]
+
 mod buffers;
 mod nexts;
 mod nights;

@@ -2,6 +2,7 @@
 // (`walk`), and finds rules by number (`rules`). All read words by index (`words`). What words are a grammar is crate grammar's
 // specs/Words.
 #![tactic(auto)]
+
 pub mod judge;
 pub mod rules;
 pub mod walk;

@@ -30,7 +30,7 @@ pub enum Step {
 }
 
 // The words, and the index and the number of the rule that comes next.
-#[derive(Drop)]
+#[derive(Clone, Copy)]
 pub struct RuleWalk<'a> {
     words: &'a [u16],
     at: usize,

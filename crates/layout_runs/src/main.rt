@@ -2,6 +2,7 @@
 // the answer on one line. The file `stdin` says how a case is written, and why its answer is what the file `stdout` has.
 // Assumes nothing.
 #![tactic(auto)]
+
 mod calls;
 
 fn main() {

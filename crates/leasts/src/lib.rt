@@ -1,6 +1,7 @@
 // The leasts of a grammar's nonterminals and the sizes of its rules by them, worked out by rounds over all rules. What the call
 // promises of any words is specs/Promise.
 #![tactic(auto)]
+
 mod chains;
 mod rounds;
 mod sizes;

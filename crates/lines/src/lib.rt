@@ -2,6 +2,7 @@
 // answers the index past what it wrote. The text of each line is specs/Lines; what the buffer holds afterwards, and the index,
 // are specs/Room.
 #![tactic(auto)]
+
 ghost use Rattle.std.specs.Prelude.{◌≡◌, ◌∷◌, ◌++◌, [], ◌<◌, length};
 ghost use Rattle.lines.specs.Digits.{digit, decimal};
 ghost use Rattle.lines.specs.Lines.{space, spaced, suite_line, sentence_line, end_line, refused_line};

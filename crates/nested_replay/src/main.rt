@@ -2,6 +2,7 @@
 // arrays are small, so that it also runs in a small stack: tests/small_stack. The file `stdout` is by hand: 4,095 uses of rule 0
 // give a token each, and one of rule 1 gives nothing. Assumes nothing.
 #![tactic(auto)]
+
 use replay::ReplayAnswer;
 
 const NUMBERS: usize = 4096;

@@ -3,6 +3,7 @@
 // grammar shape, and neither has a `requires`: what the input can break is answered by a refusal, which changes no
 // buffer.
 #![tactic(auto)]
+
 ghost use Rattle.std.specs.Prelude.{◌≡◌, ◌++◌, ◌+◌, ◌*◌, ◌/◌, ◌%◌, ◌≤◌, ◌<◌, length, take, drop, get_or, set};
 ghost use Rattle.packed.specs.File.{word_of, words_in, file_of};
 ghost use Rattle.answers.specs.Buffers.{over};

@@ -1,5 +1,6 @@
 // Replaying a derivation: `replay`. What it promises is specs/Replay. It reads no table.
 #![tactic(auto)]
+
 mod derivation;
 mod forms;
 mod rows;

@@ -2,6 +2,7 @@
 // `stdout` has what the document says of them. (Those marked P are proved: crates/samples.) Words are written as crates/cases
 // reads them: 3*7 is 7 7 7, 3+7 is 7 8 9, and 4&7 is 0 7 0 8. Assumes nothing.
 #![tactic(auto)]
+
 use tables::TableAnswer;
 
 // More words than any of these grammars has, and than its table.

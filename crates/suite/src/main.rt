@@ -5,6 +5,7 @@
 // (`whole_text`). Only `print_pieces` writes. A read that fails is the end of the input; after a write that fails nothing more is
 // written.
 #![tactic(auto)]
+
 ghost use Rattle.std.specs.Prelude.{◌≤◌, ◌≡◌, false, length};
 ghost use Rattle.entries.specs.Table.{most_table};
 ghost use Rattle.handout.specs.Next.{Lent};
@@ -20,6 +21,11 @@ use layout::judge;
 use layout::judge::LayoutAnswer;
 use packed::FileAnswer;
 use tables::TableAnswer;
+
+// The files that are standard input and standard output.
+const STDIN: i32 = 0;
+
+const STDOUT: i32 = 1;
 
 // "The program reads at most 17,418 octets": one more than the longest file has.
 const MOST_READ: usize = 17418;
@@ -44,7 +50,7 @@ struct Piece {
 
 fn main() {
     let mut file = [0u8; MOST_READ];
-    let length = io::read_full(libc::STDIN_FILENO, &mut file);
+    let length = io::read_full(STDIN, &mut file);
     let mut text = io::large_buffer();
     print_pieces(&file[..length], &mut text);
 }
@@ -70,7 +76,7 @@ fn print_pieces(file: &[u8], text: &mut [u8])
 fn print(piece: &[u8]) -> bool
     requires { Made piece.now }
 {
-    io::write_all(libc::STDOUT_FILENO, piece)
+    io::write_all(STDOUT, piece)
 }
 
 // The first piece of a file's text, from clear marks: the line of a refused file, or the first line and what fits behind it.

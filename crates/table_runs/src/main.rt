@@ -2,6 +2,7 @@
 // The files `stdin` and `stdout` are written by tests/reference/tables.py, which was written from the document alone and
 // says what a line means. Assumes nothing.
 #![tactic(auto)]
+
 mod calls;
 
 fn main() {

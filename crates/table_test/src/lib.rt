@@ -1,6 +1,7 @@
 // Whether a lent table is that of the grammar that words are, by one pass over the words and the table and no rounds. What the
 // words of a table mean is entries' specs/Table; what the call answers is specs/Promise.
 #![tactic(auto)]
+
 mod passes;
 
 ghost use Rattle.std.specs.Prelude.{◌≡◌};

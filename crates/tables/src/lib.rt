@@ -2,6 +2,7 @@
 // a table mean is crate entries' specs/Table; what the call answers is specs/Promise. Whether a lent table is a grammar's is asked
 // of crate table_test.
 #![tactic(auto)]
+
 mod build;
 mod chains;
 mod choices;
