@@ -10,7 +10,7 @@ use mathlib.Core.List.{List}
 use lib.ListN.{length}
 use Rattle.answers.specs.GrammarRefusals.{GrammarRefusal}
 use Rattle.answers.specs.Buffers.{over}
-use Rattle.grammar.specs.Words.{Grammar, InBounds}
+use Rattle.grammar.specs.Words.{Grammar, InBounds, layout, reads}
 use Rattle.grammar.specs.Refusals.{Accepted}
 use Rattle.grammar.specs.Terms.{limit}
 use Rattle.entries.specs.Table.{table_length, IsTable}
@@ -59,10 +59,14 @@ module _ (words before : List ℕ) where
       let e = accepted_settle limit words refuse Rows rows_settle (a, after) (a', after') (rows x) (rows y) in
       (ap (λ (o : Out). o.0) e, ap (λ (o : Out). o.1) e)
 
+  of_whole : {g : Grammar} {o : Out} → layout words ≡ reads g → Accepted limit g → table_length g ≤ length before → Whole g o →
+      Tables words before o.0 o.1
+  of_whole e a l (whole table) = row_done e a l table
+
   row : {o : Out} → OfAccepted limit words refuse Rows o → Tables words before o.0 o.1
   row (refused x) = row_4_7 x
   row (accepted e a (stop (same, l))) = rw same (row_3 e a (rw same at l))
-  row (accepted e a (go l (whole table))) = row_done e a l table
+  row (accepted e a (go l z)) = of_whole e a l z
 
   rows_met : (g : Grammar) → InBounds g → Accepted limit g → (o : Out) × Rows g o
   rows_met g ok a = room? (dec_lt (length before) (table_length g))

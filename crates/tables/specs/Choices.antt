@@ -26,7 +26,7 @@ pub record RuleFits (g : Grammar) (vs sizes : List ℕ) (A k : ℕ) : Type 0 whe
   pub same : figure vs A ≡ get_or sizes k 0
 
 abbrev pub ChosenOf : Grammar → List ℕ → List ℕ → List ℕ → ℕ → Type 0
-ChosenOf g vs sizes chosen n = (A : ℕ) → A < g.row.N → FirstBelow (RuleFits g vs sizes A) n (choice chosen A)
+ChosenOf g vs sizes chosen n = (A : ℕ) → A < g.N → FirstBelow (RuleFits g vs sizes A) n (choice chosen A)
 
 -- rule k has A at place i, the two as one number 32 k + i, and the rule's total is the least of A and the context of A
 pub record PlaceFits (g : Grammar) (vs us totals : List ℕ) (A q : ℕ) : Type 0 where
@@ -40,7 +40,7 @@ pub record PlaceFits (g : Grammar) (vs us totals : List ℕ) (A q : ℕ) : Type 
   pub same : figure vs A + figure us A ≡ get_or totals k 0
 
 abbrev pub LeadsOf : Grammar → List ℕ → List ℕ → List ℕ → List ℕ → ℕ → Type 0
-LeadsOf g vs us totals leads n = (A : ℕ) → A < g.row.N → FirstBelow (PlaceFits g vs us totals A) n (choice leads A)
+LeadsOf g vs us totals leads n = (A : ℕ) → A < g.N → FirstBelow (PlaceFits g vs us totals A) n (choice leads A)
 
 -- a number noted where there is none yet, and left where there is one, or no place for it
 pub data Noted (before : List ℕ) (a number : ℕ) : List ℕ → Type 0 where
@@ -56,6 +56,6 @@ pub data NotedWhere (P : Type 0) (before : List ℕ) (a number : ℕ) : List ℕ
 -- places too, whatever the grammar.
 abbrev pub LeadsNoted : List ℕ → ℕ → ℕ → ℕ → List ℕ → List ℕ → List ℕ → List ℕ → Type 0
 LeadsNoted w n r total vs us before after =
-    (g : Grammar) (B : ℕ) (totals : List ℕ) → InBounds g → n ≡ g.row.N → RuleAt g r B w → total ≡ get_or totals r 0 →
+    (g : Grammar) (B : ℕ) (totals : List ℕ) → InBounds g → n ≡ g.N → RuleAt g r B w → total ≡ get_or totals r 0 →
     128 ≤ length before →
     LeadsOf g vs us totals before (32 * r) → LeadsOf g vs us totals after (32 * (r + 1))
