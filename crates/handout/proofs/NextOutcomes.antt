@@ -15,7 +15,7 @@ use Rattle.grammar.specs.Least.{TreeOf}
 use Rattle.grammar.proofs.LayoutExact.{in_bounds}
 use Rattle.grammar.proofs.TreeOfExists.{tree_of_exists}
 use Rattle.layout.specs.Judge.{places_of}
-use Rattle.layout.proofs.WordsRead.{places_of}
+use Rattle.layout.proofs.WordsRead.{places_of_lem}
 use Rattle.entries.specs.Table.{total_in, Own}
 use Rattle.table_test.specs.Promise.{Tested, its, not_its, places_with, TestPromise}
 use Rattle.table_test.specs.declared.TableTest.{TableTest}
@@ -95,7 +95,7 @@ own_table {words} {table} {r} {n} {start} {rules} {n'} {start'} p is same same' 
         rw few (record {
           g = g;
           accepted = own.0;
-          known = record { view = places_of words read s; tabled = own.1 };
+          known = record { view = places_of_lem words read s; tabled = own.1 };
           starts_at = first;
           all_rules = refl;
         })

@@ -41,6 +41,7 @@ module _ {g : Grammar} where
   -- each handout is proper after those before it
   pub each_proper : {hs : List Handout} {r : ℕ} {t ks : List ℕ} → AllProper g hs → HandedOut hs r t ks →
       (earlier-ones : List Handout) × Proper g earlier-ones r t ks
+  each_proper none_yet h = elim h [ ]
   each_proper (and_then {hs = hs} p ps) this = (hs, p)
   each_proper (and_then p ps) (earlier h) = each_proper ps h
 
