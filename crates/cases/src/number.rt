@@ -11,7 +11,7 @@ pub const MOST_SPELLED: usize = 65538;
 
 // What has been read of a form: N, its sign, and the number after it. A number alone is a form too, 1*W. The sign is 0
 // where nothing has been read.
-#[derive(Drop)]
+#[derive(Clone, Copy)]
 struct Form {
     many: usize,
     sign: u8,

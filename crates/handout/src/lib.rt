@@ -18,7 +18,7 @@ pub const FEW_MARKS: u16 = 9;
 pub const DERIVATION_SHORT: u16 = 10;
 
 // What `next` answers: the target and both lengths written, or that no rule is unused, or the refusal's number and place.
-#[derive(Drop)]
+#[derive(Clone, Copy)]
 pub enum NextAnswer {
     Next {
         target: usize,

@@ -14,7 +14,7 @@ use layout::rules;
 const MOST_NONTERMINALS: usize = 128;
 
 // What is asked for: the sentence of the target, whose total this is; and of the grammar N and the start.
-#[derive(Drop)]
+#[derive(Clone, Copy)]
 pub struct Request {
     pub n: u16,
     pub start: u16,

@@ -12,7 +12,7 @@ ghost use Rattle.packed.specs.Judged.{Judged};
 ghost use Rattle.packed.specs.Blocks.{Spelled, Exchanged};
 
 // What both answer: the length written, or the refusal's number and place.
-#[derive(Drop)]
+#[derive(Clone, Copy)]
 pub enum FileAnswer {
     Done(usize),
     Refused { number: u16, place: usize },

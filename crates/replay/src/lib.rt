@@ -11,7 +11,7 @@ use layout::judge;
 use layout::judge::LayoutAnswer;
 
 // What `replay` answers: the number of tokens written, or the refusal's number and place.
-#[derive(Drop)]
+#[derive(Clone, Copy)]
 pub enum ReplayAnswer {
     Done(usize),
     Refused { number: u16, place: usize },

@@ -15,7 +15,7 @@ use layout::rules;
 use layout::words::word;
 
 // How many nonterminals and rules a grammar has.
-#[derive(Drop)]
+#[derive(Clone, Copy)]
 pub struct Counts {
     pub n: usize,
     pub rules: usize,

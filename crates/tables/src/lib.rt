@@ -14,7 +14,7 @@ ghost use Rattle.tables.specs.Promise.{Tables};
 use layout::judge::LayoutAnswer;
 
 // What `tables` answers: the number of words written, or the refusal's number and place.
-#[derive(Drop)]
+#[derive(Clone, Copy)]
 pub enum TableAnswer {
     Done(usize),
     Refused { number: u16, place: usize },
