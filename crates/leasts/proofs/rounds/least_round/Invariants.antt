@@ -1,0 +1,13 @@
+-- `leasts::rounds::least_round` meets its contract: the loop's invariant is `SoFar`. The measure is what is left of the
+-- rules. Assumes nothing.
+use Prim.Native.Nat.{◌-◌}
+use native.Mathlib.Omega.{arith}
+use Rattle.leasts.proofs.RoundSoFar.{SoFar, none_so_far, one_more, all_so_far}
+use borrow.Author.Rules.{rules}
+use Rattle.leasts.proofs.rounds.least_round.Given as goal
+
+abbrev pub invariant-loop-i : goal.invariant-loop-i
+invariant-loop-i l = SoFar l.words l.places l.n l.rules l.up l.i l.initial.leasts l.leasts l.fell
+
+abbrev pub decreases-loop-i : goal.decreases-loop-i
+decreases-loop-i l = l.rules - l.i

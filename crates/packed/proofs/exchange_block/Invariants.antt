@@ -1,0 +1,18 @@
+-- `packed::exchange_block` meets its contract. The invariant of its loop: the first j of the block are exchanged. The measure is
+-- the block's length less j. Assumes nothing.
+use mathlib.Core.Path.{◌≡◌}
+use Prim.Native.Nat.{ℕ, ◌+◌, ◌-◌, ◌/◌, ◌%◌, ◌≤◌, ◌<◌}
+use native.Mathlib.Omega.{arith}
+use borrow.Author.Rules.{rules}
+use lib.ListN.{length, get_or}
+use Rattle.packed.specs.Blocks.{Exchanges}
+use Rattle.packed.proofs.BlockFilled.{Each, each_more}
+use Rattle.packed.proofs.exchange_block.Given as goal
+
+abbrev pub invariant-loop-j : goal.invariant-loop-j
+invariant-loop-j l =
+    (l.j ≤ 8) × (length l.block ≡ 8)
+    × Each (Exchanges l.words l.i) l.block l.j
+
+abbrev pub decreases-loop-j : goal.decreases-loop-j
+decreases-loop-j l = 8 - l.j

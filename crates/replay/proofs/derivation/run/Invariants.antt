@@ -1,0 +1,20 @@
+-- `replay::derivation::run` meets its contract: the loop's invariant is `Held`, with the bounds and the lengths of what is lent.
+-- The measure is what is to be done at most: tokens passed make it no more, and a step makes it less. Assumes nothing.
+use mathlib.Core.Path.{◌≡◌, refl}
+use native.Mathlib.Omega.{arith}
+use lib.ListN.{length}
+use Rattle.grammar.specs.Words.{Grammar}
+use Rattle.layout.specs.View.{View}
+use Rattle.replay.specs.ReplaySteps.{WithinBounds, to_do}
+use Rattle.replay.proofs.ReplayStepped.{passes_kept, passes_no_more}
+use Rattle.replay.proofs.ReplayRun.{Held, held_start, kept_start, onward, held_passed, held_on, held_end, held_stop}
+use borrow.Author.Rules.{rules}
+use Rattle.replay.proofs.derivation.run.Given as goal
+
+abbrev pub invariant-loop-more : goal.invariant-loop-more
+invariant-loop-more l =
+    WithinBounds l.words l.list l.stack l.form × (length l.stack ≡ length l.initial.stack) × (length l.sentence ≡ length l.initial.sentence) ×
+    ((g : Grammar) → View l.words l.places l.n l.rules g → Held g l.words l.list l.stack l.form l.initial.sentence l.sentence)
+
+abbrev pub decreases-loop-more : goal.decreases-loop-more
+decreases-loop-more l = to_do l.words l.list l.stack l.form

@@ -1,0 +1,31 @@
+-- `table_test::passes::choices_pass` meets its contract: the choices of each nonterminal that the loop has passed are right. The
+-- measure is what is left of the nonterminals. Assumes nothing.
+use Prim.Native.Nat.{ℕ, ◌≤◌, ◌<◌, ◌-◌}
+use native.Mathlib.Omega.{arith}
+use borrow.Author.Count.{below_more}
+use Rattle.grammar.specs.Words.{Grammar}
+use Rattle.layout.specs.View.{View}
+use Rattle.table_test.specs.Passes.{ChoicePasses}
+use Rattle.table_test.proofs.Telling.{told, refuted}
+use borrow.Author.Rules.{rules}
+use Rattle.table_test.proofs.passes.choices_pass.Goals as goal
+
+pub loop-a-init : goal.loop-a-init
+loop-a-init c = (omega arith, λ k h. absurd (omega arith))
+
+pub loop-a-preserved : goal.loop-a-preserved
+loop-a-preserved c =
+    let tested = c.choice_passes in (
+      omega arith,
+      below_more _ _ c.loop-a.invariant.1 (λ g view.
+          told tested.result (tested.ensures g view) c.if-choice_passes.true),
+    )
+
+pub returns-else-choice_passes : goal.returns-else-choice_passes
+returns-else-choice_passes c g view p =
+    let tested = c.choice_passes in
+    let here = p c.loop-a.a (omega (arith, view.nonterminals)) in
+    refuted tested.result (tested.ensures g view) c.if-choice_passes.false here
+
+pub returns : goal.returns
+returns c g view A lt = c.loop-a.invariant.1 A (omega (arith, view.nonterminals)) g view

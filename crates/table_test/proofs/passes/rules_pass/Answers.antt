@@ -1,0 +1,47 @@
+-- `table_test::passes::rules_pass` meets its contract: each rule that the loop has passed is right. The measure is what is left of
+-- the rules. Assumes nothing.
+use Prim.Native.Nat.{ℕ, ◌≤◌, ◌<◌, ◌-◌}
+use native.Mathlib.Omega.{arith}
+use mathlib.Core.List.{List}
+use borrow.Author.Count.{below_more}
+use Rattle.grammar.specs.Words.{Grammar, RuleAt}
+use Rattle.entries.specs.Table.{total_in}
+use Rattle.layout.specs.View.{View}
+use Rattle.table_test.specs.Passes.{RulePasses}
+use Rattle.table_test.proofs.Telling.{told, refuted}
+use Rattle.table_test.proofs.RulesRead.{index_of, below_rules, rule_answered}
+use borrow.Author.Rules.{rules}
+use Rattle.table_test.proofs.passes.rules_pass.Goals as goal
+
+pub loop-r-init : goal.loop-r-init
+loop-r-init c = (omega arith, λ k h. absurd (omega arith))
+
+pub loop-r-preserved : goal.loop-r-preserved
+loop-r-preserved c =
+    let a = c.args in
+    let r = c.loop-r.r in
+    let index = c in
+    let at = index_of a.places.now index.index.ensures index.wide.ensures in
+    let tested = c.rule_passes in (
+      omega arith,
+      below_more _ r c.loop-r.invariant.1 (λ g view.
+          told tested.result
+          (rule_answered view a.table.now r _ c.total.ensures.0 (omega arith) tested.result
+          (rw at at (tested.ensures g view.nonterminals)))
+          c.if-rule_passes.true),
+    )
+
+pub returns-else-rule_passes : goal.returns-else-rule_passes
+returns-else-rule_passes c g view p =
+    let a = c.args in
+    let r = c.loop-r.r in
+    let index = c in
+    let at = index_of a.places.now index.index.ensures index.wide.ensures in
+    let tested = c.rule_passes in
+    refuted tested.result
+    (rule_answered view a.table.now r _ c.total.ensures.0 (omega arith) tested.result
+    (rw at at (tested.ensures g view.nonterminals)))
+    c.if-rule_passes.false (p r)
+
+pub returns : goal.returns
+returns c g view k A w at = c.loop-r.invariant.1 k (omega (arith, below_rules view at)) g view A w at
