@@ -1,5 +1,5 @@
 -- Any two outcomes that a promise of the code allows coincide. None of the functions is lent what it could write. Assumes nothing.
-use mathlib.Core.Path.{◌≡◌, ap, sym, ◌∙◌}
+use mathlib.Core.Path.{◌≡◌, sym, ◌∙◌}
 use mathlib.Core.List.{List}
 use Prim.Native.Nat.{ℕ}
 use lib.ListN.{get_or}

@@ -5,7 +5,7 @@ use mathlib.Core.List.{List}
 use Prim.Native.Nat.{ℕ, ◌≤◌, ◌<◌}
 use native.Mathlib.Omega.{arith}
 use lib.ListN.{get_or}
-use Rattle.grammar.specs.Words.{Grammar, RuleAt, R, place_of, layout, reads}
+use Rattle.grammar.specs.Words.{Grammar, RuleAt}
 use Rattle.layout.specs.Rules.{right_at}
 use Rattle.layout.specs.View.{View}
 use Rattle.grammar.proofs.LayoutExact.{in_bounds, rule_at}

@@ -1,6 +1,5 @@
-// A walk over the rules of grammar words: the words it reads and its place are kept together. The borrow checker covers no
-// function over such a struct, so each of those is thin and proved by hand; the work is in `step_at`, over plain words. Who
-// loops over the rules calls `rule_from`, and needs no walk by hand.
+// A walk over the rules of grammar words: the words it reads and its place are kept together. Each function over that struct is
+// thin; the work is in `step_at`, over plain words. Who loops over the rules calls `rule_from`, and needs no walk.
 ghost use Rattle.std.specs.Prelude.{◌≡◌};
 ghost use Rattle.layout.specs.Walk.{place, place_in, walk_at, walk_start, step_at, place_after, walk_past, taken_from};
 

@@ -1,7 +1,7 @@
 -- The sizes of the rules, noted one after the other as long as none would lower a figure. If none would, every rule is quiet, and
 -- each has its size among the sizes, or 0 if it has none; if one would, not every rule is. Assumes nothing.
 use mathlib.Core.Path.{◌≡◌, ap, ◌∙◌}
-use mathlib.Core.Bool.{Bool, true, false, not}
+use mathlib.Core.Bool.{Bool, true, false}
 use mathlib.Core.List.{List}
 use Prim.Native.Nat.{ℕ, ◌+◌, ◌≤◌, ◌<◌}
 use native.Mathlib.Omega.{arith}
@@ -72,14 +72,14 @@ module _ {ws places : List ℕ} {n rules : ℕ} {g : Grammar} (view : View ws pl
             omega (arith, quiet A u rule have)
 
     pub settled_more : {vs before after : List ℕ} {b : Bool} → r < length before →
-        SizeStep (get_or ws at 0) w n vs r before after b → not b ≡ false → Settled g vs before r true →
+        SizeStep (get_or ws at 0) w n vs r before after b → b ≡ true → Settled g vs before r true →
         Settled g vs after (r + 1) true
     settled_more {vs} {before} h (has_none lacks) t so_far = written_more (Here g vs) before h (none_here vs lacks) so_far
     settled_more h (lowers x s l) t so_far = absurd (let z : ◌≡◌ {A = ℕ} 0 1 = cc in omega arith)
     settled_more {vs} {before} h (noted x s l) t so_far = written_more (Here g vs) before h (quiet_here s l, size_here s) so_far
 
     pub unsettled : {vs before after : List ℕ} {b : Bool} → r < rules →
-        SizeStep (get_or ws at 0) w n vs r before after b → not b ≡ true → ¬ ((k : ℕ) → k < rules → LeastQuiet g vs k)
+        SizeStep (get_or ws at 0) w n vs r before after b → b ≡ false → ¬ ((k : ℕ) → k < rules → LeastQuiet g vs k)
     unsettled h (has_none lacks) t = absurd (let z : ◌≡◌ {A = ℕ} 0 1 = cc in omega arith)
     unsettled h (lowers x s l) t = λ quiet. loud_here h s l (quiet r h)
     unsettled h (noted x s l) t = absurd (let z : ◌≡◌ {A = ℕ} 0 1 = cc in omega arith)

@@ -8,21 +8,18 @@ use Rattle.leasts.proofs.leasts.Goals as goal
 
 pub least_rounds-requires : goal.least_rounds-requires
 least_rounds-requires c =
-    let answer = c in
-    let read = answer.read-reading in
-    let p = begun_of _ read.ensures.0 read.ensures.1 answer.answer-in-Grammar-1.given.1 in
+    let read = c.read-reading.ensures in
+    let p = begun_of _ read.answer_value read.places_value c.in-Grammar.is in
     let few = view_few p.view in
-    ((omega (arith, few), search rules, search rules), (p.grammar, p.view))
+    record { rules_bound = (omega (arith, few), search rules, search rules); view = (p.grammar, p.view) }
 
 pub returns-in-Fault : goal.returns-in-Fault
 returns-in-Fault c =
-    let read = c.read-reading in
-    no_grammar _ read.ensures.0 read.ensures.1 c.answer-1.given.1 refl refl refl
+    let read = c.read-reading.ensures in
+    no_grammar _ read.answer_value read.places_value c.in-Fault.is refl refl refl
 
 pub returns-in-Grammar : goal.returns-in-Grammar
 returns-in-Grammar c =
-    let answer = c in
-    let read = answer.read-reading in
-    let rounds = c.least_rounds in
-    of_grammar _ read.ensures.0 read.ensures.1 answer.answer-in-Grammar-1.given.1 refl (search rules) (search rules)
-    (λ g view. rounds.ensures g view (none_sound g))
+    let read = c.read-reading.ensures in
+    of_grammar _ read.answer_value read.places_value c.in-Grammar.is refl (search rules) (search rules)
+    (λ g view. c.least_rounds.ensures g view (none_sound g))

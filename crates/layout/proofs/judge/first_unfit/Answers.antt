@@ -1,6 +1,6 @@
 -- `layout::judge::first_unfit` meets its contract. The loop's invariant: every word passed is below the limit.
 -- Assumes nothing.
-use Prim.Native.Nat.{ℕ, ◌-◌, ◌≤◌, ◌<◌}
+use Prim.Native.Nat.{ℕ, ◌≤◌, ◌<◌}
 use native.Mathlib.Omega.{arith}
 use borrow.Author.Rules.{rules}
 use borrow.Author.Count.{below_more}
@@ -9,9 +9,6 @@ use Rattle.layout.proofs.judge.first_unfit.Goals as goal
 
 pub loop-i-init : goal.loop-i-init
 loop-i-init c = (search rules, search rules, λ j a b. absurd (omega arith))
-
-pub overflow_cast-words : goal.overflow_cast-words
-overflow_cast-words c = omega (arith, c.shared_slice_known-1.given c.loop-i.i)
 
 pub returns-then-limit-words : goal.returns-then-limit-words
 returns-then-limit-words c =

@@ -1,9 +1,6 @@
 -- `layout::judge::first_unfit` meets its contract. The loop's invariant: every word passed is below the limit.
 -- Assumes nothing.
 use Prim.Native.Nat.{ℕ, ◌-◌, ◌≤◌, ◌<◌}
-use native.Mathlib.Omega.{arith}
-use borrow.Author.Rules.{rules}
-use borrow.Author.Count.{below_more}
 use lib.ListN.{get_or}
 use Rattle.layout.proofs.judge.first_unfit.Given as goal
 

@@ -3,7 +3,6 @@
 use mathlib.Core.Path.{refl}
 use native.Mathlib.Omega.{arith}
 use Rattle.layout.proofs.HeadJudged as head
-use borrow.Author.Rules.{rules}
 use Rattle.layout.proofs.judge.judge_head.Goals as goal
 
 pub returns-then-nonterminals-eq0 : goal.returns-then-nonterminals-eq0

@@ -2,30 +2,39 @@
 -- Assumes nothing.
 use native.Mathlib.Omega.{arith}
 use Rattle.layout.proofs.RuleJudged.{left_unfit, count_missing, count_unfit, rule_judged, rule_ends}
-use borrow.Author.Rules.{rules}
 use Rattle.layout.proofs.judge.judge_rule.Goals as goal
 
 pub returns-then-nonterminals-word : goal.returns-then-nonterminals-word
 returns-then-nonterminals-word c =
     let a = c.args in
-    (left_unfit a.words.now a.nonterminals a.terminals a.at (omega arith) (omega arith), tt)
+    record {
+      ruled = left_unfit a.words.now a.nonterminals a.terminals a.at (omega arith) (omega arith);
+      rule_ends = tt;
+    }
 
 pub returns-then-len-first : goal.returns-then-len-first
 returns-then-len-first c =
     let a = c.args in
-    (count_missing a.words.now a.nonterminals a.terminals a.at (omega arith) (omega arith) (omega arith), tt)
+    record {
+      ruled = count_missing a.words.now a.nonterminals a.terminals a.at (omega arith) (omega arith) (omega arith);
+      rule_ends = tt;
+    }
 
 pub returns-then-count-gt-MOST_SYMBOLS : goal.returns-then-count-gt-MOST_SYMBOLS
 returns-then-count-gt-MOST_SYMBOLS c =
     let a = c.args in
-    (count_unfit a.words.now a.nonterminals a.terminals a.at (omega arith) (omega arith) (omega arith), tt)
+    record {
+      ruled = count_unfit a.words.now a.nonterminals a.terminals a.at (omega arith) (omega arith) (omega arith);
+      rule_ends = tt;
+    }
 
 pub returns : goal.returns
 returns c =
     let a = c.args in
     let k = c.word-count in
     let s = c.judge_symbols in
-    let judged = rule_judged a.words.now a.nonterminals a.terminals a.at k.result in (
-      judged (omega arith) (omega arith) k.ensures (omega arith) s.result s.ensures.0,
-      rule_ends a.words.now a.at k.result k.ensures (omega arith) s.result s.ensures.1,
-    )
+    let judged = rule_judged a.words.now a.nonterminals a.terminals a.at k.result in
+    record {
+      ruled = judged (omega arith) (omega arith) k.ensures (omega arith) s.result s.ensures.symbols;
+      rule_ends = rule_ends a.words.now a.at k.result k.ensures (omega arith) s.result s.ensures.symbols_end;
+    }

@@ -2,25 +2,19 @@
 -- 256, and of those to come; and what places is to hold in the end is what it holds with those to come noted. The measure is how
 -- many may still begin. Assumes nothing.
 use mathlib.Core.Path.{◌≡◌, refl, ap, sym, ◌∙◌}
-use Prim.Native.Nat.{ℕ, ◌+◌, ◌*◌, ◌-◌, ◌≤◌}
+use Prim.Native.Nat.{ℕ}
 use native.Mathlib.Omega.{arith}
 use borrow.Author.Rules.{rules}
-use lib.ListN.{length, drop}
-use Rattle.answers.specs.Buffers.{over}
-use Rattle.grammar.specs.Words.{lefts}
-use Rattle.layout.specs.Walk.{walk_start}
-use Rattle.layout.specs.Rules.{places_from}
-use Rattle.layout.specs.JudgeParts.{number_of, RuleEnds}
+use Rattle.layout.specs.JudgeParts.{RuleEnds}
 use Rattle.layout.specs.declared.judge.Part.TheVariants.{Fit}
-use Rattle.layout.proofs.TableJudged.{whole, none_before, table_ends, table_full, rule_faulted, rule_passed}
+use Rattle.layout.proofs.TableJudged.{none_before, table_ends, table_full, rule_faulted, rule_passed}
 use Rattle.layout.proofs.PlacesNoted.{finally, one_noted, all_noted}
 use Rattle.layout.proofs.judge.judge_rules.Goals as goal
 
 pub loop-at-init : goal.loop-at-init
 loop-at-init c =
-    let start = c in
-    let a = start.args in
-    let first : 3 ≡ a.first = omega (arith, start.requires.first_value.0) in
+    let a = c.args in
+    let first : 3 ≡ a.first = omega (arith, c.requires.first_value.0) in
     let none = none_before a.words.now a.nonterminals a.terminals a.first in
     (search rules, none, refl, omega arith, ap (λ (at : ℕ). finally a.words.now a.places.now at 0) first)
 
@@ -29,7 +23,7 @@ returns-then-rules-eq-MOST_RULES c =
     let a = c.args in
     let l = c.loop-at in
     let full = table_full a.words.now a.nonterminals a.terminals l.at l.rules (omega arith) (omega arith) in
-    (l.invariant.1 ∙ full, tt)
+    record { rules_numbered = l.invariant.1 ∙ full; places_told = tt }
 
 pub overflow_cast-places : goal.overflow_cast-places
 overflow_cast-places c = omega arith
@@ -42,22 +36,22 @@ returns-in-Fault c =
     let a = c.args in
     let l = c.loop-at in
     let j = c.judge_rule in
-    let e = c.place-1.given.1 in
+    let e = c.in-Fault.is in
     let faulted = rule_faulted a.words.now a.nonterminals a.terminals l.at l.rules in
-    (l.invariant.1 ∙ faulted _ j.result (omega arith) j.ensures.0 e, tt)
+    record { rules_numbered = l.invariant.1 ∙ faulted _ j.result (omega arith) j.ensures.ruled e; places_told = tt }
 
 pub loop-at-preserved : goal.loop-at-preserved
 loop-at-preserved c =
     let a = c.args in
     let l = c.loop-at in
     let j = c.judge_rule in
-    let e = c.next-1.given.1 in
-    let q = c.next-1.given.0.0 in
+    let e = c.in-Fit.is in
+    let q = c.in-Fit.next in
     let passed = rule_passed a.words.now a.nonterminals a.terminals l.at l.rules in
-    let ends : RuleEnds a.words.now l.at (Fit q) = rw e at j.ensures.1 in
-    let noted = one_noted a.words.now l.places l.at l.rules q j.result (omega arith) (omega arith) j.ensures.1 e in (
+    let ends : RuleEnds a.words.now l.at (Fit q) = rw e at j.ensures.rule_ends in
+    let noted = one_noted a.words.now l.places l.at l.rules q j.result (omega arith) (omega arith) j.ensures.rule_ends e in (
       search rules,
-      l.invariant.1 ∙ passed _ j.result (omega arith) j.ensures.0 e,
+      l.invariant.1 ∙ passed _ j.result (omega arith) j.ensures.ruled e,
       search rules,
       omega (arith, ends.2),
       l.invariant.4 ∙ noted,
@@ -68,4 +62,7 @@ returns c =
     let a = c.args in
     let l = c.loop-at in
     let ends = table_ends a.words.now a.nonterminals a.terminals l.at l.rules (omega arith) in
-    (l.invariant.1 ∙ ends, sym (l.invariant.4 ∙ all_noted a.words.now l.places l.at l.rules (omega arith)))
+    record {
+      rules_numbered = l.invariant.1 ∙ ends;
+      places_told = sym (l.invariant.4 ∙ all_noted a.words.now l.places l.at l.rules (omega arith));
+    }

@@ -3,7 +3,6 @@
 use mathlib.Core.Path.{refl}
 use native.Mathlib.Omega.{arith}
 use Rattle.layout.proofs.RuleJudged.{symbols_unfit, symbols_fit}
-use borrow.Author.Rules.{rules}
 use Rattle.layout.proofs.judge.judge_symbols.Goals as goal
 
 pub returns-then-len-first : goal.returns-then-len-first
@@ -11,18 +10,24 @@ returns-then-len-first c =
     let a = c.args in
     let u = c.first_unfit.ensures in
     let unfit = symbols_unfit a.words.now a.nonterminals a.terminals a.first a.count c.first_unfit.result in
-    (unfit (omega arith) (omega arith) (omega arith) u.fit (λ h. u.unfit (omega arith)), tt)
+    record {
+      symbols = unfit (omega arith) (omega arith) (omega arith) u.fit (λ h. u.unfit (omega arith));
+      symbols_end = tt;
+    }
 
 pub returns-then-place-end : goal.returns-then-place-end
 returns-then-place-end c =
     let a = c.args in
     let u = c.first_unfit-place.ensures in
     let unfit = symbols_unfit a.words.now a.nonterminals a.terminals a.first a.count c.first_unfit-place.result in
-    (unfit (omega arith) (omega arith) (omega arith) u.fit (λ h. u.unfit (omega arith)), tt)
+    record {
+      symbols = unfit (omega arith) (omega arith) (omega arith) u.fit (λ h. u.unfit (omega arith));
+      symbols_end = tt;
+    }
 
 pub returns-else-place-end : goal.returns-else-place-end
 returns-else-place-end c =
     let a = c.args in
     let u = c.first_unfit-place.ensures in
     let fit = symbols_fit a.words.now a.nonterminals a.terminals a.first a.count in
-    (fit (omega arith) (λ j h l. u.fit j h (omega arith)), (refl, omega arith))
+    record { symbols = fit (omega arith) (λ j h l. u.fit j h (omega arith)); symbols_end = (refl, omega arith) }

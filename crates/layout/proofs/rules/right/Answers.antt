@@ -11,24 +11,23 @@ use Rattle.layout.proofs.rules.right.Goals as goal
 pub returns-then-len-lt2 : goal.returns-then-len-lt2
 returns-then-len-lt2 c =
     let a = c.args in
-    (sym (right_cut a.words.now a.at (omega arith)), search rules)
+    record { result_value = sym (right_cut a.words.now a.at (omega arith)); result_len_bound = search rules }
 
 pub returns-then-len-at : goal.returns-then-len-at
 returns-then-len-at c =
     let a = c.args in
-    (sym (right_cut a.words.now a.at (omega arith)), search rules)
+    record { result_value = sym (right_cut a.words.now a.at (omega arith)); result_len_bound = search rules }
 
 pub returns-then-len-first : goal.returns-then-len-first
 returns-then-len-first c =
     let a = c.args in
-    (sym (right_cut a.words.now a.at (omega arith)), search rules)
+    record { result_value = sym (right_cut a.words.now a.at (omega arith)); result_len_bound = search rules }
 
 pub returns : goal.returns
 returns c =
-    let start = c in
-    let a = start.args in
+    let a = c.args in
     let counted = c.word-count in
-    let size : a.at + 2 + counted.result-1 - (a.at + 2) ≡ counted.result-1 = omega arith in
-    let word = c.shared_slice_known-1.given (a.at + 1) in
+    let size : a.at + 2 + counted.result - (a.at + 2) ≡ counted.result = omega arith in
+    let word = c.type_inv.words (a.at + 1) in
     let whole = sym (right_whole a.words.now a.at (omega arith)) in
-    (rw (size, counted.ensures) whole, simp length-take (omega (arith, word)))
+    record { result_value = rw (size, counted.ensures) whole; result_len_bound = simp length-take (omega (arith, word)) }

@@ -1,6 +1,5 @@
 -- `layout::walk::index_after` meets its contract: the case of the step is that of the place after it. Assumes nothing.
 use mathlib.Core.Path.{ap, sym, ◌∙◌}
-use borrow.Author.Rules.{rules}
 use Rattle.layout.specs.Walk.{place, past_step}
 use Rattle.layout.specs.declared.walk.Step.{Step}
 use Rattle.layout.proofs.walk.index_after.Goals as goal
@@ -8,12 +7,9 @@ use Rattle.layout.proofs.walk.index_after.Goals as goal
 pub returns-in-Rule : goal.returns-in-Rule
 returns-in-Rule c =
     let a = c.args in
-    ap
-    (λ (s : Step). (past_step s (place a.at a.number)).at)
-    (sym c.span-1.given.1 ∙ c.step_at.ensures)
+    ap (λ (s : Step). (past_step s (place a.at a.number)).at) (sym c.in-Rule.is ∙ c.step_at.ensures)
 
 pub returns-in-End : goal.returns-in-End
 returns-in-End c =
     let a = c.args in
-    ap (λ (s : Step). (past_step s (place a.at a.number)).at) (sym c.enum_told-1.given.1 ∙
-    c.step_at.ensures)
+    ap (λ (s : Step). (past_step s (place a.at a.number)).at) (sym c.in-End.is ∙ c.step_at.ensures)

@@ -4,7 +4,6 @@ use mathlib.Core.Path.{sym}
 use native.Mathlib.Omega.{arith}
 use Rattle.layout.specs.Walk.{place}
 use Rattle.layout.proofs.WalkSteps.{step_past_256, step_cut, step_rule}
-use borrow.Author.Rules.{rules}
 use Rattle.layout.proofs.walk.step_at.Goals as goal
 
 pub returns-then-number-ge-MOST_RULES : goal.returns-then-number-ge-MOST_RULES

@@ -1,12 +1,7 @@
 -- `layout::words::word` meets its contract: past the end `get_or` is 0. Assumes nothing.
 use mathlib.Core.Path.{sym}
 use lib.ListN.{get_or-eq_default}
-use native.Mathlib.Omega.{arith}
-use borrow.Author.Rules.{rules}
 use Rattle.layout.proofs.words.word.Goals as goal
-
-pub overflow_cast-result : goal.overflow_cast-result
-overflow_cast-result c = omega (arith, c.shared_slice_known-1.given c.args.i)
 
 pub returns-else-i-words : goal.returns-else-i-words
 returns-else-i-words c = sym (get_or-eq_default c.args.words.now 0 c.if-i-words.false)

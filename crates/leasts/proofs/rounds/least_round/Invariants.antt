@@ -1,9 +1,7 @@
 -- `leasts::rounds::least_round` meets its contract: the loop's invariant is `SoFar`. The measure is what is left of the
 -- rules. Assumes nothing.
 use Prim.Native.Nat.{◌-◌}
-use native.Mathlib.Omega.{arith}
-use Rattle.leasts.proofs.RoundSoFar.{SoFar, none_so_far, one_more, all_so_far}
-use borrow.Author.Rules.{rules}
+use Rattle.leasts.proofs.RoundSoFar.{SoFar}
 use Rattle.leasts.proofs.rounds.least_round.Given as goal
 
 abbrev pub invariant-loop-i : goal.invariant-loop-i

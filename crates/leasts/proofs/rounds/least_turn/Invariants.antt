@@ -1,13 +1,7 @@
 -- `leasts::rounds::least_turn` meets its contract: the loop's invariant is `Followed`. The measure is the sum of the figures, which
 -- falls with each rule but the last. Assumes nothing.
-use Prim.Native.Nat.{◌≤◌}
-use native.Mathlib.Omega.{arith}
-use lib.ListN.{length}
 use Rattle.figures.specs.Weights.{weight}
-use Rattle.layout.proofs.RulesInside.{left_within, nonterminals_within}
-use Rattle.leasts.proofs.LeastTurns.{step_fallen, Followed, followed_none, followed_more, followed_end}
-use Rattle.leasts.proofs.LeastTurns.{followed_turn, followed_out}
-use borrow.Author.Rules.{rules}
+use Rattle.leasts.proofs.LeastTurns.{Followed}
 use Rattle.leasts.proofs.rounds.least_turn.Given as goal
 
 abbrev pub invariant-loop-r : goal.invariant-loop-r

@@ -3,25 +3,18 @@ use Rattle.leasts.specs.LeastSteps.{too_many, not_yet, tried}
 use Rattle.figures.proofs.FiguresFall.{figure_is}
 use Rattle.leasts.proofs.RuleSummed.{sized_none, sized_some}
 use native.Mathlib.Omega.{arith}
-use borrow.Author.Rules.{rules}
 use Rattle.leasts.proofs.rounds.lower_least.Goals as goal
-
-pub overflow_cast-leasts : goal.overflow_cast-leasts
-overflow_cast-leasts c = omega (arith, c.slice_known-2-1.given c.args.left)
 
 pub returns-then-leasts-left : goal.returns-then-leasts-left
 returns-then-leasts-left c =
-    let start = c in
-    let a = start.args in
-    too_many (omega (arith, c.if-leasts-left.true, figure_is a.leasts-1.now a.left 0 (omega arith)))
+    let a = c.args in
+    too_many (omega (arith, c.if-leasts-left.true, figure_is a.leasts.now a.left 0 (omega arith)))
 
 pub returns-then-size-eq0 : goal.returns-then-size-eq0
 returns-then-size-eq0 c = not_yet (sized_none c.rule_size-size.ensures c.if-size-eq0.true)
 
 pub returns : goal.returns
 returns c =
-    let capped = c in
-    let else = capped in
-    let sized = else.rule_size-size in
-    let lowered = rw capped.cap.ensures at c.lower.ensures in
-    tried sized.result (sized_some sized.ensures else.if-size-eq0.false) lowered
+    let sized = c.rule_size-size in
+    let lowered = rw c.cap.ensures at c.lower.ensures in
+    tried sized.result (sized_some sized.ensures c.if-size-eq0.false) lowered

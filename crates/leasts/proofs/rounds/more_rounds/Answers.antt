@@ -1,22 +1,10 @@
 -- `leasts::rounds::more_rounds` meets its contract: after each round the leasts are `Rounded`. The measure is the sum of the
 -- figures and how many fell in the last round: each round takes from the sum at least what it counts. Assumes nothing.
-use Prim.Native.Nat.{◌+◌}
-use mathlib.Core.Path.{◌≡◌, refl}
-use lib.ListN.{length}
-use Rattle.grammar.specs.Words.{Grammar}
-use Rattle.layout.specs.View.{View}
-use Rattle.figures.specs.Weights.{weight}
-use Rattle.leasts.specs.LeastRounding.{Rounded}
+use mathlib.Core.Path.{◌≡◌}
 use Rattle.leasts.proofs.RoundSoFar.{rounded}
 use native.Mathlib.Omega.{arith}
 use borrow.Author.Rules.{rules}
 use Rattle.leasts.proofs.rounds.more_rounds.Goals as goal
-
-pub loop-fell-init : goal.loop-fell-init
-loop-fell-init c = (refl, λ g view so_far. so_far)
-
-pub loop-fell-smaller : goal.loop-fell-smaller
-loop-fell-smaller c = omega (arith, c.least_round-fell.ensures.fallen)
 
 pub loop-fell-preserved : goal.loop-fell-preserved
 loop-fell-preserved c =

@@ -1,16 +1,12 @@
 -- `leasts::sizes::sizes_settle` meets its contract: the rules that the loop has passed are quiet, and have their sizes. The
 -- measure is the number of rules to come. Assumes nothing.
-use mathlib.Core.Path.{◌≡◌, refl}
+use mathlib.Core.Path.{◌≡◌}
 use mathlib.Core.Bool.{true}
-use Prim.Native.Nat.{◌-◌, ◌≤◌, ◌<◌}
+use Prim.Native.Nat.{◌-◌, ◌≤◌}
 use lib.ListN.{length}
 use Rattle.grammar.specs.Words.{Grammar}
 use Rattle.layout.specs.View.{View}
 use Rattle.leasts.specs.LeastSteps.{Settled, KeptFrom}
-use Rattle.layout.proofs.RulesInside.{inside, left_within, nonterminals_within}
-use Rattle.leasts.proofs.RuleSizes.{settled_more, unsettled, kept_more}
-use native.Mathlib.Omega.{arith}
-use borrow.Author.Rules.{rules}
 use Rattle.leasts.proofs.sizes.sizes_settle.Given as goal
 
 abbrev pub invariant-loop-r : goal.invariant-loop-r
