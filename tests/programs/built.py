@@ -28,7 +28,10 @@ def archive():
     sources = [TOP / 'crates.txt', TOP / 'toolchain']
     sources += [path for part in ('src', 'specs', 'proofs') for path in TOP.glob(f'crates/*/{part}/**/*')]
     if not ARCHIVE.exists() or ARCHIVE.stat().st_mtime < max(path.stat().st_mtime for path in sources):
-        run('rt', 'staticlib', 'calls', cwd=TOP)
+        crate = TOP / 'crates' / 'calls'
+        run('rt', 'lib', cwd=crate)
+        ARCHIVE.parent.mkdir(parents=True, exist_ok=True)
+        shutil.copyfile(crate / 'out' / 'libcalls.a', ARCHIVE)
     return ARCHIVE
 
 

@@ -11,44 +11,33 @@ rule_totals-requires c = omega (arith, view_few c.requires.view)
 
 pub returns-in-At : goal.returns-in-At
 returns-in-At c =
-    let searched = c in
-    let summed = searched in
-    let p = summed.requires in
-    refuses_7 p (summed.rule_totals.ensures p.grammar _ p.view) (search rules) searched.first_above.ensures
-    c.r-1.given.1 c.refuse.ensures
+    let p = c.requires in
+    refuses_7 p (c.rule_totals.ensures p.grammar _ p.view) (search rules) c.first_above.ensures
+    c.in-At.is c.refuse.ensures
 
 pub returns-then-table-needed : goal.returns-then-table-needed
 returns-then-table-needed c =
-    let told = c in
-    let searched = told in
-    let summed = searched in
-    let p = summed.requires in
+    let p = c.requires in
     let few = view_few p.view in
     let n = c.narrow.ensures.1 (omega (arith, few)) in
     let rules = c.narrow-2.ensures.1 (omega (arith, few)) in
-    refuses_3 p (summed.rule_totals.ensures p.grammar _ p.view) (search rules) searched.first_above.ensures
-    told.enum_told-1.given.1 (c.length-needed.ensures ∙ rw (n, rules)) c.if-table-needed.true c.refuse-then-table-needed.ensures
+    refuses_3 p (c.rule_totals.ensures p.grammar _ p.view) (omega (arith, c.rule_totals.auto.totals)) c.first_above.ensures
+    c.in_default.is (c.length-needed.ensures ∙ rw (n, rules)) c.if-table-needed.true c.refuse-then-table-needed.ensures
 
 pub finish-requires : goal.finish-requires
 finish-requires c =
-    let long = c in
-    let summed = long in
-    let p = summed.requires in
+    let p = c.requires in
     let few = view_few p.view in
-    let n = long.narrow.ensures.1 (omega (arith, few)) in
-    let rules = long.narrow-2.ensures.1 (omega (arith, few)) in
-    (p, omega (arith, long.length-needed.ensures, n, rules, c.if-table-needed.false))
+    let n = c.narrow.ensures.1 (omega (arith, few)) in
+    let rules = c.narrow-2.ensures.1 (omega (arith, few)) in
+    record { placed = p; rules_in_bounds = omega (arith, c.length-needed.ensures, n, rules, c.if-table-needed.false) }
 
 pub returns : goal.returns
 returns c =
-    let long = c in
-    let told = long in
-    let searched = told in
-    let summed = searched in
-    let p = summed.requires in
+    let p = c.requires in
     let few = view_few p.view in
-    let n = long.narrow.ensures.1 (omega (arith, few)) in
-    let rules = long.narrow-2.ensures.1 (omega (arith, few)) in
-    finishes p (summed.rule_totals.ensures p.grammar _ p.view) (search rules) searched.first_above.ensures
-    told.enum_told-1.given.1 (long.length-needed.ensures ∙ rw (n, rules)) c.if-table-needed.false
+    let n = c.narrow.ensures.1 (omega (arith, few)) in
+    let rules = c.narrow-2.ensures.1 (omega (arith, few)) in
+    finishes p (c.rule_totals.ensures p.grammar _ p.view) (omega (arith, c.rule_totals.auto.totals)) c.first_above.ensures
+    c.in_default.is (c.length-needed.ensures ∙ rw (n, rules)) c.if-table-needed.false
     c.finish.ensures

@@ -19,21 +19,17 @@ pub context_rounds-requires : goal.context_rounds-requires
 context_rounds-requires c =
     let p = c.requires in
     let few = view_few p.view in
-    let known : LeastsKnown _ _ _ _ _ _ p.grammar = record { view = p.view; done = p.leasts; sized = p.sizes_are } in
-    ((omega (arith, few), simp length-set (search rules)), (p.grammar, known))
+    let known : LeastsKnown c.args.words.now c.args.places.now c.args.n c.args.rules c.args.sizes.now c.args.leasts.now p.grammar = record { view = p.view; done = p.leasts; sized = p.sizes_are } in
+    record { rules_bound = (omega (arith, few), simp length-set (search rules)); leasts_known = (p.grammar, known) }
 
 pub returns-in-At : goal.returns-in-At
 returns-in-At c =
-    let searched = c in
-    let rounds = searched in
-    let p = rounds.requires in
-    let rest = rounds.context_rounds.ensures p.grammar p.view p.leasts p.sizes_are (contexts_start p refl) in
-    refuses_6 p rest searched.first_above.ensures c.a-1.given.1 c.refuse.ensures
+    let p = c.requires in
+    let rest = c.context_rounds.ensures p.grammar p.view p.leasts p.sizes_are (contexts_start p refl) in
+    refuses_6 p rest c.first_above.ensures c.in-At.is c.refuse.ensures
 
 pub of_contexts-requires : goal.of_contexts-requires
 of_contexts-requires c =
-    let searched = c in
-    let rounds = searched in
-    let p = rounds.requires in
-    let rest = rounds.context_rounds.ensures p.grammar p.view p.leasts p.sizes_are (contexts_start p refl) in
-    placed p rest searched.first_above.ensures c.enum_told-1.given.1
+    let p = c.requires in
+    let rest = c.context_rounds.ensures p.grammar p.view p.leasts p.sizes_are (contexts_start p refl) in
+    placed p rest c.first_above.ensures c.in_default.is

@@ -1,7 +1,6 @@
 -- `tables::chains::link` ends: the measure is what is left of the symbols. Assumes nothing.
 use Prim.Native.Nat.{◌-◌}
 use lib.ListN.{length}
-use borrow.Author.Rules.{rules}
 use Rattle.tables.proofs.chains.link.Given as goal
 
 abbrev pub invariant-loop-i : goal.invariant-loop-i

@@ -1,8 +1,7 @@
 -- `tables::chains::note_rules` ends: the measure is what is left of the rules. Assumes nothing.
 use Prim.Native.Nat.{◌-◌}
-use mathlib.Core.Path.{◌≡◌, refl}
+use mathlib.Core.Path.{◌≡◌}
 use lib.ListN.{length}
-use borrow.Author.Rules.{rules}
 use Rattle.tables.proofs.chains.note_rules.Given as goal
 
 abbrev pub invariant-loop-r : goal.invariant-loop-r

@@ -1,7 +1,6 @@
 -- `tables::choices::choose_lead` meets its contract: each `return` is one of `NotedWhere`'s cases. Assumes nothing.
 use native.Mathlib.Omega.{arith}
 use Rattle.tables.specs.Choices.{does, does_not}
-use borrow.Author.Rules.{rules}
 use Rattle.tables.proofs.choices.choose_lead.Goals as goal
 
 pub overflow_add-figure_at : goal.overflow_add-figure_at
@@ -9,11 +8,10 @@ overflow_add-figure_at c = omega (arith, c.figure_at-then-s-n.ensures.upper_boun
 
 pub returns-then-figure_at-wide : goal.returns-then-figure_at-wide
 returns-then-figure_at-wide c =
-    let sum = c in
-    let context = sum.figure_at-then-s-n.ensures.value in
-    let least = sum.figure_at.ensures.value in
-    let total = sum.wide.ensures in
-    does (omega arith, omega (arith, context, least, total, sum.if-figure_at-wide.true)) c.note.ensures
+    let context = c.figure_at-then-s-n.ensures.value in
+    let least = c.figure_at.ensures.value in
+    let total = c.wide.ensures in
+    does (omega arith, omega (arith, context, least, total, c.if-figure_at-wide.true)) c.note.ensures
 
 pub returns-else-figure_at-wide : goal.returns-else-figure_at-wide
 returns-else-figure_at-wide c =

@@ -1,17 +1,11 @@
 -- `tables::choices::choose_leads` meets its contract: of the places of the rules that the loop has passed the first that fit
 -- stand, whatever the grammar. The measure is the number of rules to come. Assumes nothing.
 use Prim.Native.Nat.{◌*◌, ◌≤◌, ◌-◌}
-use mathlib.Core.Path.{◌≡◌, refl, ap, ◌∙◌}
-use native.Mathlib.Omega.{arith}
-use borrow.Author.Rules.{rules}
+use mathlib.Core.Path.{◌≡◌}
 use lib.ListN.{length}
 use Rattle.grammar.specs.Words.{Grammar}
-use Rattle.layout.specs.Rules.{right_at}
-use Rattle.grammar.proofs.LayoutExact.{in_bounds, rule_short}
 use Rattle.tables.specs.Choices.{NoChoices, LeadsOf}
-use Rattle.tables.proofs.FirstsNoted.{firsts_empty, empty_room}
 use Rattle.layout.specs.View.{View}
-use Rattle.layout.proofs.RulesInView.{viewed_rule, viewed_right, viewed_room}
 use Rattle.tables.proofs.choices.choose_leads.Given as goal
 
 abbrev pub invariant-loop-r : goal.invariant-loop-r

@@ -1,22 +1,13 @@
 -- `tables::choices::choose_leads_of` meets its contract: of the places that the loop has passed the first that fit stand,
 -- whatever the grammar. The measure is what is left of the symbols. Assumes nothing.
-use Prim.Native.Nat.{ℕ, ◌+◌, ◌*◌, ◌≤◌, ◌-◌}
-use mathlib.Core.Path.{◌≡◌, refl, ◌∙◌}
-use mathlib.Core.List.{List}
+use mathlib.Core.Path.{refl, ◌∙◌}
 use native.Mathlib.Nat.{add-zero}
 use native.Mathlib.Omega.{arith}
-use borrow.Author.Rules.{rules}
-use lib.ListN.{length, get_or}
-use Rattle.grammar.specs.Words.{Grammar, RuleAt, InBounds}
-use Rattle.tables.specs.Choices.{LeadsOf}
 use Rattle.tables.proofs.LeadsChosen.{place_chosen, places_end}
 use Rattle.tables.proofs.choices.choose_leads_of.Goals as goal
 
 pub loop-i-init : goal.loop-i-init
 loop-i-init c = (omega arith, refl, λ g B totals ok n-is rule t-is room before. rw add-zero before)
-
-pub overflow_cast-symbols : goal.overflow_cast-symbols
-overflow_cast-symbols c = omega (arith, c.shared_slice_known-in-loop-i-1.given c.loop-i.i)
 
 pub loop-i-preserved : goal.loop-i-preserved
 loop-i-preserved c =
@@ -24,11 +15,11 @@ loop-i-preserved c =
     let loop = c.loop-i in
     let a = c.args in (
       omega arith,
-      chose.auto.1.1.1.1.1.1.0 ∙ loop.invariant.1,
+      chose.auto.leads ∙ loop.invariant.1,
       λ g B totals ok n-is rule t-is room before.
           let so_far = loop.invariant.2 g B totals ok n-is rule t-is room before in
           let noted = rw (n-is, t-is) at chose.ensures in
-          place_chosen g ok a.leasts.now a.contexts.now totals rule loop.leads-1 loop.i so_far _ (omega arith) refl
+          place_chosen g ok a.leasts.now a.contexts.now totals rule loop.leads loop.i so_far _ (omega arith) refl
           noted (omega arith) (omega (arith, loop.invariant.1)),
     )
 
@@ -37,4 +28,4 @@ returns c g B totals ok n-is rule t-is room before =
     let loop = c.loop-i in
     let a = c.args in
     let so_far = loop.invariant.2 g B totals ok n-is rule t-is room before in
-    places_end g ok a.leasts.now a.contexts.now totals rule loop.leads-1 loop.i so_far (omega arith) (omega arith)
+    places_end g ok a.leasts.now a.contexts.now totals rule loop.leads loop.i so_far (omega arith) (omega arith)

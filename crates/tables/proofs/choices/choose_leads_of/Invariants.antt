@@ -1,15 +1,11 @@
 -- `tables::choices::choose_leads_of` meets its contract: of the places that the loop has passed the first that fit stand,
 -- whatever the grammar. The measure is what is left of the symbols. Assumes nothing.
 use Prim.Native.Nat.{ℕ, ◌+◌, ◌*◌, ◌≤◌, ◌-◌}
-use mathlib.Core.Path.{◌≡◌, refl, ◌∙◌}
+use mathlib.Core.Path.{◌≡◌}
 use mathlib.Core.List.{List}
-use native.Mathlib.Nat.{add-zero}
-use native.Mathlib.Omega.{arith}
-use borrow.Author.Rules.{rules}
 use lib.ListN.{length, get_or}
 use Rattle.grammar.specs.Words.{Grammar, RuleAt, InBounds}
 use Rattle.tables.specs.Choices.{LeadsOf}
-use Rattle.tables.proofs.LeadsChosen.{place_chosen, places_end}
 use Rattle.tables.proofs.choices.choose_leads_of.Given as goal
 
 abbrev pub invariant-loop-i : goal.invariant-loop-i

@@ -1,14 +1,10 @@
 -- `tables::choices::choose_rules` meets its contract: of the rules that the loop has passed the first that fit stand, whatever
 -- the grammar. The measure is the number of rules to come. Assumes nothing.
-use Prim.Native.Nat.{ℕ, ◌≤◌, ◌-◌}
+use Prim.Native.Nat.{ℕ}
 use mathlib.Core.Path.{◌≡◌, refl, ap, ◌∙◌}
 use native.Mathlib.Omega.{arith}
-use borrow.Author.Rules.{rules}
-use lib.ListN.{length, get_or}
-use Rattle.grammar.specs.Words.{Grammar}
-use Rattle.tables.specs.Choices.{NoChoices, ChosenOf}
+use lib.ListN.{get_or}
 use Rattle.tables.proofs.FirstsNoted.{firsts_empty, empty_room}
-use Rattle.layout.specs.View.{View}
 use Rattle.layout.proofs.RulesInView.{viewed_room}
 use Rattle.tables.proofs.RulesChosen.{rule_chosen}
 use Rattle.tables.proofs.choices.choose_rules.Goals as goal
@@ -18,7 +14,7 @@ loop-r-init c =
     let a = c.args in (
       omega arith,
       refl,
-      λ g n view empty. firsts_empty _ g.N a.chosen-1.now empty (viewed_room view (omega arith)),
+      λ g n view empty. firsts_empty _ g.N a.chosen.now empty (viewed_room view (omega arith)),
     )
 
 pub loop-r-preserved : goal.loop-r-preserved
@@ -29,9 +25,9 @@ loop-r-preserved c =
     let loop = c.loop-r in
     let a = c.args in (
       omega arith,
-      chose.auto.1.1.1.1.0 ∙ loop.invariant.1,
+      chose.auto.chosen ∙ loop.invariant.1,
       λ g n view empty.
-          let room = empty_room a.chosen-1.now empty in
+          let room = empty_room a.chosen.now empty in
           let left = word.ensures ∙ ap (λ (p : ℕ). get_or a.words.now p 0) at.ensures in
           let noted = rw left at chose.ensures in
           let so_far = loop.invariant.2 g n view empty in

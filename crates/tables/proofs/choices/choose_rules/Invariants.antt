@@ -1,16 +1,11 @@
 -- `tables::choices::choose_rules` meets its contract: of the rules that the loop has passed the first that fit stand, whatever
 -- the grammar. The measure is the number of rules to come. Assumes nothing.
 use Prim.Native.Nat.{ℕ, ◌≤◌, ◌-◌}
-use mathlib.Core.Path.{◌≡◌, refl, ap, ◌∙◌}
-use native.Mathlib.Omega.{arith}
-use borrow.Author.Rules.{rules}
-use lib.ListN.{length, get_or}
+use mathlib.Core.Path.{◌≡◌}
+use lib.ListN.{length}
 use Rattle.grammar.specs.Words.{Grammar}
 use Rattle.tables.specs.Choices.{NoChoices, ChosenOf}
-use Rattle.tables.proofs.FirstsNoted.{firsts_empty, empty_room}
 use Rattle.layout.specs.View.{View}
-use Rattle.layout.proofs.RulesInView.{viewed_room}
-use Rattle.tables.proofs.RulesChosen.{rule_chosen}
 use Rattle.tables.proofs.choices.choose_rules.Given as goal
 
 abbrev pub invariant-loop-r : goal.invariant-loop-r

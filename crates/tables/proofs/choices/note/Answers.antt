@@ -1,7 +1,6 @@
 -- `tables::choices::note` meets its contract: each `return` is one of `Noted`'s cases. Assumes nothing.
 use Prim.Native.Nat.{◌<◌}
 use native.Mathlib.Omega.{arith}
-use borrow.Author.Rules.{rules}
 use lib.ListN.{length}
 use Rattle.tables.specs.Choices.{noted, kept}
 use Rattle.figures.proofs.FiguresFall.{figure_is}

@@ -3,7 +3,6 @@ use mathlib.Core.Path.{◌≡◌}
 use mathlib.Core.List.{List}
 use Prim.Native.Nat.{ℕ, ◌+◌, ◌≤◌, ◌<◌}
 use native.Mathlib.Omega.{arith}
-use borrow.Author.Rules.{rules}
 use lib.ListN.{length, set}
 use Rattle.figures.specs.Figures.{figure}
 use Rattle.tables.specs.ContextSteps.{PlacesStep, ContextStep, as_seen, unseen}
@@ -19,26 +18,14 @@ unseen-read e e' h small differs ps = rw e (unseen h (rw e at small) (rw e at di
 pub returns-then-context-seen : goal.returns-then-context-seen
 returns-then-context-seen c =
     let a = c.args in
-    let e = figure_is a.contexts-1.now a.left 0 (omega arith) in
+    let e = figure_is a.contexts.now a.left 0 (omega arith) in
     as_seen (omega (arith, e, figure_is a.seen.now a.r 0 (omega arith)))
-
-pub overflow_cast-context : goal.overflow_cast-context
-overflow_cast-context c =
-    let known = c in
-    omega (arith, known.slice_known-2-1.given known.args.left)
-
-pub overflow_add-context : goal.overflow_add-context
-overflow_add-context c =
-    let known = c in
-    omega (arith, known.slice_known-2-1.given known.args.left)
 
 pub returns : goal.returns
 returns c =
-    let l = c in
-    let known = l in
-    let a = known.args in
-    let is = figure_is a.contexts-1.now a.left 0 (omega arith) in
+    let a = c.args in
+    let is = figure_is a.contexts.now a.left 0 (omega arith) in
     let was = figure_is a.seen.now a.r 0 (omega arith) in
-    let small = known.slice_known-2-1.given a.left in
-    unseen-read is (omega (arith, l.widened.ensures)) (omega arith) (omega (arith, small))
-    (λ e. omega (arith, e, was)) l.lower_contexts.ensures
+    let small = c.type_inv.contexts a.left in
+    unseen-read is (omega (arith, c.widened.ensures)) (omega arith) (omega (arith, small))
+    (λ e. omega (arith, e, was)) c.lower_contexts.ensures

@@ -1,10 +1,7 @@
 -- `tables::contexts::context_round` meets its contract: the loop's invariant is `SeenSoFar`. The measure is what is left of
 -- the rules. Assumes nothing.
-use Prim.Native.Nat.{◌-◌, ◌≤◌}
-use native.Mathlib.Omega.{arith}
-use lib.ListN.{length}
-use Rattle.tables.proofs.SeenRounds.{SeenSoFar, none_seen, one_more_seen, all_seen}
-use borrow.Author.Rules.{rules}
+use Prim.Native.Nat.{◌-◌}
+use Rattle.tables.proofs.SeenRounds.{SeenSoFar}
 use Rattle.tables.proofs.contexts.context_round.Given as goal
 
 abbrev pub invariant-loop-i : goal.invariant-loop-i

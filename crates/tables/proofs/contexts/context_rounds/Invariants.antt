@@ -1,14 +1,12 @@
 -- `tables::contexts::context_rounds` meets its contract: the loop's invariant is `SeenRounds`. The measure is the sum of the
 -- figures and how many fell in the last round: each round takes from the sum at least what it counts. Assumes nothing.
 use Prim.Native.Nat.{◌+◌}
-use mathlib.Core.Path.{◌≡◌, refl, ◌∙◌}
-use native.Mathlib.Omega.{arith}
+use mathlib.Core.Path.{◌≡◌}
 use lib.ListN.{length}
 use Rattle.grammar.specs.Words.{Grammar}
 use Rattle.figures.specs.Weights.{weight}
 use Rattle.tables.specs.ContextSteps.{LeastsKnown}
-use Rattle.tables.proofs.SeenRounds.{SeenRounds, rounds_none, rounds_more, outset}
-use borrow.Author.Rules.{rules}
+use Rattle.tables.proofs.SeenRounds.{SeenRounds}
 use Rattle.tables.proofs.contexts.context_rounds.Given as goal
 
 abbrev pub invariant-loop-fell : goal.invariant-loop-fell

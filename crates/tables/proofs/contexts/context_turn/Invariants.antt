@@ -1,14 +1,7 @@
 -- `tables::contexts::context_turn` meets its contract: the loop's invariant is `ContextsFollowed`. The measure is the sum of the
 -- figures, which falls with each rule but the last. Assumes nothing.
-use Prim.Native.Nat.{◌≤◌, ◌<◌}
-use mathlib.Core.Path.{refl}
-use native.Mathlib.Omega.{arith}
-use lib.ListN.{length}
 use Rattle.figures.specs.Weights.{weight}
-use Rattle.tables.proofs.ContextsFall.{context_fallen}
-use Rattle.tables.proofs.ContextRounds.{ContextsFollowed, followed_none, followed_more, followed_end}
-use Rattle.tables.proofs.ContextRounds.{followed_turn, followed_out, left_room}
-use borrow.Author.Rules.{rules}
+use Rattle.tables.proofs.ContextRounds.{ContextsFollowed}
 use Rattle.tables.proofs.contexts.context_turn.Given as goal
 
 abbrev pub invariant-loop-r : goal.invariant-loop-r

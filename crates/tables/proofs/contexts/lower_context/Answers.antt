@@ -4,7 +4,6 @@ use mathlib.Core.List.{List}
 use mathlib.Core.Logic.{inl, inr}
 use Prim.Native.Nat.{ℕ, ◌-◌}
 use native.Mathlib.Omega.{arith}
-use borrow.Author.Rules.{rules}
 use Rattle.figures.specs.Figures.{figure, capped, Lowered}
 use Rattle.tables.specs.ContextSteps.{skipped, tried}
 use Rattle.tables.proofs.contexts.lower_context.Goals as goal
@@ -20,9 +19,7 @@ returns-then-whole-least c = skipped (inr (omega (arith, c.figure_at-least.ensur
 
 pub returns : goal.returns
 returns c =
-    let to = c in
-    let found = to in
-    let a = found.args in
-    let least = found.figure_at-least.ensures.value in
-    let e : to.cap-to.result ≡ capped (a.whole - figure a.leasts.now a.s) = omega (arith, least, to.cap-to.ensures) in
+    let a = c.args in
+    let least = c.figure_at-least.ensures.value in
+    let e : c.cap-to.result ≡ capped (a.whole - figure a.leasts.now a.s) = omega (arith, least, c.cap-to.ensures) in
     tried (omega arith) (omega (arith, least)) (lowered-to e c.lower.ensures)

@@ -3,7 +3,7 @@
 -- nothing.
 use mathlib.Core.Path.{◌≡◌, refl}
 use mathlib.Core.List.{List, []}
-use Prim.Native.Nat.{ℕ, ◌+◌, ◌-◌, ◌≤◌, ◌<◌}
+use Prim.Native.Nat.{ℕ, ◌+◌, ◌<◌}
 use native.Mathlib.Nat.{zero-add, add-zero, add_assoc}
 use native.Mathlib.Numerals.{add-one}
 use native.Mathlib.Omega.{arith}
@@ -23,26 +23,21 @@ module _ {n whole : ℕ} {vs : List ℕ} where
 pub loop-i-init : goal.loop-i-init
 loop-i-init c = (refl, omega arith, omega arith, λ us f ps. rw zero-add ps)
 
-pub overflow_cast-symbols : goal.overflow_cast-symbols
-overflow_cast-symbols c = omega (arith, c.shared_slice_known-in-loop-i-1.given c.loop-i.i)
-
 pub overflow_add-fell : goal.overflow_add-fell
 overflow_add-fell c = omega (arith, place_once c.lower_context-fell.ensures)
 
 pub loop-i-preserved : goal.loop-i-preserved
 loop-i-preserved c =
-    let l = c in
-    let a = l.args in
+    let a = c.args in
     let step = c.lower_context-fell.ensures in (
       search rules,
       omega (arith, place_once step),
       omega arith,
-      λ us f ps. rw add_assoc (l.loop-i.invariant.3 us _ (from_place a.symbols.now l.loop-i.i (omega arith) step ps)),
+      λ us f ps. rw add_assoc (c.loop-i.invariant.3 us _ (from_place a.symbols.now c.loop-i.i (omega arith) step ps)),
     )
 
 pub returns : goal.returns
 returns c =
-    let l = c in
-    let a = l.args in
-    let e : drop l.loop-i.i a.symbols.now ≡ [] = drop_of_length-le a.symbols.now {i = l.loop-i.i} (omega arith) in
-    rw add-zero at (l.loop-i.invariant.3 l.loop-i.contexts 0 (rw e no_symbol))
+    let a = c.args in
+    let e : drop c.loop-i.i a.symbols.now ≡ [] = drop_of_length-le a.symbols.now {i = c.loop-i.i} (omega arith) in
+    rw add-zero at (c.loop-i.invariant.3 c.loop-i.contexts 0 (rw e no_symbol))

@@ -1,17 +1,11 @@
 -- `tables::contexts::lower_contexts` meets its contract. The loop's invariant: what the symbols from i on do, after what those
 -- below i did, is what all do; and no symbol lowers more than one figure. The measure is what is left of the symbols. Assumes
 -- nothing.
-use mathlib.Core.Path.{◌≡◌, refl}
-use mathlib.Core.List.{List, []}
-use Prim.Native.Nat.{ℕ, ◌+◌, ◌-◌, ◌≤◌, ◌<◌}
-use native.Mathlib.Nat.{zero-add, add-zero, add_assoc}
-use native.Mathlib.Numerals.{add-one}
-use native.Mathlib.Omega.{arith}
-use borrow.Author.Rules.{rules}
-use lib.ListN.{length, drop, drop_of_length-le, get_or}
-use lib.Seq.{drop-cons}
-use Rattle.tables.specs.ContextSteps.{PlaceStep, PlacesStep, no_symbol, symbol}
-use Rattle.tables.proofs.ContextsFall.{place_once}
+use mathlib.Core.Path.{◌≡◌}
+use mathlib.Core.List.{List}
+use Prim.Native.Nat.{ℕ, ◌+◌, ◌-◌, ◌≤◌}
+use lib.ListN.{length, drop}
+use Rattle.tables.specs.ContextSteps.{PlacesStep}
 use Rattle.tables.proofs.contexts.lower_contexts.Given as goal
 
 abbrev pub invariant-loop-i : goal.invariant-loop-i

@@ -1,10 +1,9 @@
 -- `tables::contexts::rule_totals` meets its contract: the totals below r stand. The measure is what is left of the rules.
 -- Assumes nothing.
 use mathlib.Core.Path.{◌≡◌, refl, ap, ◌∙◌}
-use Prim.Native.Nat.{ℕ, ◌-◌, ◌≤◌, ◌<◌}
+use Prim.Native.Nat.{ℕ}
 use native.Mathlib.Omega.{arith}
-use borrow.Author.Rules.{rules}
-use lib.ListN.{length, length-set, get_or}
+use lib.ListN.{length-set, get_or}
 use Rattle.figures.specs.Figures.{figure}
 use Rattle.figures.proofs.WrittenInOrder.{written_more}
 use Rattle.tables.proofs.RuleTotals.{total_at, totals_of}
@@ -15,20 +14,17 @@ loop-r-init c = (omega arith, refl, λ k h. absurd (omega arith))
 
 pub loop-r-preserved : goal.loop-r-preserved
 loop-r-preserved c =
-    let at = c in
-    let loop = at in
-    let a = loop.args in
-    let index = at.index.ensures in
-    let left = at.word-left.ensures ∙ ap (λ (p : ℕ). get_or a.words.now p 0) index in
-    let context = at.figure_at.ensures.value ∙ ap (figure a.contexts.now) left in (
+    let a = c.args in
+    let index = c.index.ensures in
+    let left = c.word-left.ensures ∙ ap (λ (p : ℕ). get_or a.words.now p 0) index in
+    let context = c.figure_at.ensures.value ∙ ap (figure a.contexts.now) left in (
       omega arith,
-      simp length-set loop.loop-r.invariant.1,
+      simp length-set c.loop-r.invariant.1,
       written_more (λ k x. x ≡ total_at a.words.now a.places.now a.sizes.now a.contexts.now k)
-          loop.loop-r.totals (omega arith) (omega (arith, context)) loop.loop-r.invariant.2,
+          c.loop-r.totals (omega arith) (omega (arith, context)) c.loop-r.invariant.2,
     )
 
 pub returns : goal.returns
 returns c g n view =
-    let loop = c in
-    let a = loop.args in
-    totals_of view a.sizes.now a.contexts.now loop.loop-r.totals (λ k h. loop.loop-r.invariant.2 k (omega arith))
+    let a = c.args in
+    totals_of view a.sizes.now a.contexts.now c.loop-r.totals (λ k h. c.loop-r.invariant.2 k (omega arith))

@@ -1,13 +1,9 @@
 -- `tables::contexts::rule_totals` meets its contract: the totals below r stand. The measure is what is left of the rules.
 -- Assumes nothing.
-use mathlib.Core.Path.{◌≡◌, refl, ap, ◌∙◌}
+use mathlib.Core.Path.{◌≡◌}
 use Prim.Native.Nat.{ℕ, ◌-◌, ◌≤◌, ◌<◌}
-use native.Mathlib.Omega.{arith}
-use borrow.Author.Rules.{rules}
-use lib.ListN.{length, length-set, get_or}
-use Rattle.figures.specs.Figures.{figure}
-use Rattle.figures.proofs.WrittenInOrder.{written_more}
-use Rattle.tables.proofs.RuleTotals.{total_at, totals_of}
+use lib.ListN.{length, get_or}
+use Rattle.tables.proofs.RuleTotals.{total_at}
 use Rattle.tables.proofs.contexts.rule_totals.Given as goal
 
 abbrev pub invariant-loop-r : goal.invariant-loop-r

@@ -4,7 +4,6 @@ use native.Mathlib.Omega.{arith}
 use Rattle.tables.specs.Filling.{context_rule, context_place, found_in}
 use Rattle.figures.proofs.FiguresFall.{figure_is}
 use Rattle.tables.proofs.FirstsNoted.{choice_is}
-use borrow.Author.Rules.{rules}
 use Rattle.tables.proofs.fill.entries_of.Goals as goal
 
 pub bounds-leads-a : goal.bounds-leads-a

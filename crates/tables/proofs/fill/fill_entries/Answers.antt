@@ -1,12 +1,9 @@
 -- `tables::fill::fill_entries` meets its contract: the entries of the nonterminals that the loop has passed stand in the table. The
 -- measure is the number of those to come. Assumes nothing.
-use Prim.Native.Nat.{ℕ, ◌-◌, ◌≤◌}
+use Prim.Native.Nat.{ℕ}
 use mathlib.Core.Path.{◌≡◌, refl, ap, ◌∙◌}
-use mathlib.Core.List.{List}
-use lib.ListN.{length}
 use native.Mathlib.Omega.{arith}
-use Rattle.entries.specs.Table.{length_for}
-use Rattle.entries.specs.Writing.{with_entries, entered_to}
+use Rattle.entries.specs.Writing.{with_entries}
 use Rattle.entries.specs.declared.Entries.{Entries}
 use Rattle.entries.proofs.EntriesWritten.{none_entered, enter_next}
 use Rattle.tables.specs.Filling.{found_in}
@@ -19,7 +16,7 @@ loop-a-init c =
       omega arith,
       refl,
       λ totals rules room. none_entered a.n rules
-          (found_in a.leasts.now a.chosen.now a.contexts.now a.leads.now totals) a.table-1.now,
+          (found_in a.leasts.now a.chosen.now a.contexts.now a.leads.now totals) a.table.now,
     )
 
 pub entries_of-requires : goal.entries_of-requires
@@ -43,13 +40,13 @@ loop-a-preserved c =
     let at = c.narrow.ensures.1 (omega (arith, below, few)) in
     let stored =
     c.write.ensures ∙
-    ap (λ (k : ℕ). with_entries loop.table-1 k c.entries_of.result) at ∙
-    ap (λ (e : Entries). with_entries loop.table-1 loop.a e) c.entries_of.ensures in (
+    ap (λ (k : ℕ). with_entries loop.table k c.entries_of.result) at ∙
+    ap (λ (e : Entries). with_entries loop.table loop.a e) c.entries_of.ensures in (
       omega arith,
       search rules,
       λ totals rules room.
           enter_next a.n rules (found_in a.leasts.now a.chosen.now a.contexts.now a.leads.now totals)
-          a.table-1.now room loop.a below (loop.invariant.2 totals rules room) stored,
+          a.table.now room loop.a below (loop.invariant.2 totals rules room) stored,
     )
 
 pub returns : goal.returns

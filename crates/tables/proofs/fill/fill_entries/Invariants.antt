@@ -1,16 +1,12 @@
 -- `tables::fill::fill_entries` meets its contract: the entries of the nonterminals that the loop has passed stand in the table. The
 -- measure is the number of those to come. Assumes nothing.
 use Prim.Native.Nat.{ℕ, ◌-◌, ◌≤◌}
-use mathlib.Core.Path.{◌≡◌, refl, ap, ◌∙◌}
+use mathlib.Core.Path.{◌≡◌}
 use mathlib.Core.List.{List}
 use lib.ListN.{length}
-use native.Mathlib.Omega.{arith}
 use Rattle.entries.specs.Table.{length_for}
-use Rattle.entries.specs.Writing.{with_entries, entered_to}
-use Rattle.entries.specs.declared.Entries.{Entries}
-use Rattle.entries.proofs.EntriesWritten.{none_entered, enter_next}
+use Rattle.entries.specs.Writing.{entered_to}
 use Rattle.tables.specs.Filling.{found_in}
-use borrow.Author.Rules.{rules}
 use Rattle.tables.proofs.fill.fill_entries.Given as goal
 
 abbrev pub invariant-loop-a : goal.invariant-loop-a

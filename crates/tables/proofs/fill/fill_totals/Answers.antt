@@ -1,12 +1,10 @@
 -- `tables::fill::fill_totals` meets its contract: the totals of the rules that the loop has passed stand in the table. The measure
 -- is the number of those to come. Assumes nothing.
-use Prim.Native.Nat.{ℕ, ◌-◌, ◌≤◌}
+use Prim.Native.Nat.{ℕ}
 use mathlib.Core.Path.{◌≡◌, refl, ap, ◌∙◌}
-use mathlib.Core.List.{List}
-use lib.ListN.{length, get_or}
+use lib.ListN.{get_or}
 use native.Mathlib.Omega.{arith}
-use Rattle.entries.specs.Table.{length_for}
-use Rattle.entries.specs.Writing.{with_total, totalled_to}
+use Rattle.entries.specs.Writing.{with_total}
 use Rattle.entries.proofs.EntriesWritten.{total_next}
 use Rattle.tables.specs.Filling.{found_in}
 use borrow.Author.Rules.{rules}
@@ -27,8 +25,8 @@ loop-r-preserved c =
     let total = get_or a.totals.now loop.r 0 in
     let stored =
     c.write_total.ensures ∙
-    ap (λ (k : ℕ). with_total loop.table-1 k c.narrow-in-loop-r.result total) n ∙
-    ap (λ (k : ℕ). with_total loop.table-1 a.n k total) r in (
+    ap (λ (k : ℕ). with_total loop.table k c.narrow-in-loop-r.result total) n ∙
+    ap (λ (k : ℕ). with_total loop.table a.n k total) r in (
       omega arith,
       search rules,
       λ leasts chosen contexts leads before room so_far.

@@ -1,15 +1,12 @@
 -- `tables::fill::fill_totals` meets its contract: the totals of the rules that the loop has passed stand in the table. The measure
 -- is the number of those to come. Assumes nothing.
 use Prim.Native.Nat.{ℕ, ◌-◌, ◌≤◌}
-use mathlib.Core.Path.{◌≡◌, refl, ap, ◌∙◌}
+use mathlib.Core.Path.{◌≡◌}
 use mathlib.Core.List.{List}
-use lib.ListN.{length, get_or}
-use native.Mathlib.Omega.{arith}
+use lib.ListN.{length}
 use Rattle.entries.specs.Table.{length_for}
-use Rattle.entries.specs.Writing.{with_total, totalled_to}
-use Rattle.entries.proofs.EntriesWritten.{total_next}
+use Rattle.entries.specs.Writing.{totalled_to}
 use Rattle.tables.specs.Filling.{found_in}
-use borrow.Author.Rules.{rules}
 use Rattle.tables.proofs.fill.fill_totals.Given as goal
 
 abbrev pub invariant-loop-r : goal.invariant-loop-r

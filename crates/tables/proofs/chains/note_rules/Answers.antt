@@ -1,9 +1,0 @@
--- `tables::chains::note_rules` ends: the measure is what is left of the rules. Assumes nothing.
-use Prim.Native.Nat.{◌-◌}
-use mathlib.Core.Path.{◌≡◌, refl}
-use lib.ListN.{length}
-use borrow.Author.Rules.{rules}
-use Rattle.tables.proofs.chains.note_rules.Goals as goal
-
-pub loop-r-init : goal.loop-r-init
-loop-r-init c = refl
