@@ -1,6 +1,5 @@
 -- Document 01's table of D, of the definitions themselves. Proved from the definitions and from laws on grammars alone, so that a
 -- definition that says otherwise is refused here. Assumes nothing.
-use Prim.Native.Nat.{ℕ}
 use mathlib.Core.Path.{refl}
 use lib.Dec.{leb}
 use borrow.Author.Tests.{leb-true}

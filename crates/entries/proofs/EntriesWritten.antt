@@ -8,7 +8,6 @@ use lib.ListN.{length, get_or, set, take, drop}
 use borrow.Author.Tests.{lt-ltb, le-ltb}
 use Rattle.answers.specs.Buffers.{over}
 use Rattle.answers.proofs.WrittenFromFront.{store_next, all_over}
-use Rattle.answers.specs.Lists.{tabulate}
 use Rattle.answers.proofs.Tabulate.{length-tabulate, get_d_tabulate}
 use Rattle.grammar.specs.Certificates.{Figures}
 use Rattle.grammar.specs.Terms.{measure}

