@@ -1,6 +1,6 @@
 /* A night in C: prints the suite of the grammar file that its argument names, or that standard input has.
  *
- *     gcc -I include examples/night.c target/staticlib/libcalls.a -o night && ./night decks/deck.packed
+ *     gcc -I include examples/night.c crates/calls/out/libcalls.a -o night && ./night decks/deck.packed
  */
 #include <inttypes.h>
 #include <stdio.h>

@@ -1,6 +1,6 @@
 ! A night in Fortran: prints the suite of the grammar file that its argument names, or that standard input has.
 !
-!     gfortran examples/vanchiluk.f90 examples/night.f90 target/staticlib/libcalls.a -o night && ./night decks/deck.packed
+!     gfortran examples/vanchiluk.f90 examples/night.f90 crates/calls/out/libcalls.a -o night && ./night decks/deck.packed
 program night
     use, intrinsic :: iso_c_binding, only: c_int8_t, c_int16_t, c_int64_t, c_size_t
     use vanchiluk

@@ -2,7 +2,7 @@
 """A night in Python: prints the suite of the grammar file that its second argument names, or that standard input has. The first
 is the shared library, made of the archive:
 
-    gcc -shared -o libvanchiluk.so -Wl,--whole-archive target/staticlib/libcalls.a -Wl,--no-whole-archive
+    gcc -shared -o libvanchiluk.so -Wl,--whole-archive crates/calls/out/libcalls.a -Wl,--no-whole-archive
     python3 examples/night.py ./libvanchiluk.so decks/deck.packed
 """
 import ctypes

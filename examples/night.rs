@@ -1,6 +1,6 @@
 //! A night in Rust: prints the suite of the grammar file that its argument names, or that standard input has.
 //!
-//!     rustc -O -L target/staticlib examples/night.rs -o night && ./night decks/deck.packed
+//!     rustc -O -L crates/calls/out examples/night.rs -o night && ./night decks/deck.packed
 use std::fmt::Write as _;
 use std::fs::File;
 use std::io::{self, Read};

@@ -1,6 +1,6 @@
 //! The five calls for Rust, as safe functions over slices: a slice is never null, and what is lent as `&mut` overlaps nothing
 //! else, which is all that the calls ask. Take it into a program by `mod vanchiluk;`, and give rustc
-//! `--edition 2021 -L target/staticlib`.
+//! `--edition 2021 -L crates/calls/out`.
 #![allow(dead_code)]
 
 /// "an answer is one of Done, Next, Finished or Refused"

@@ -1,4 +1,4 @@
-/* The five calls of Vanchiluk, for C and C++. `rt staticlib calls` writes the archive target/staticlib/libcalls.a, which has them
+/* The five calls of Vanchiluk, for C and C++. `rt lib` in crates/calls writes the archive crates/calls/out/libcalls.a, which has them
  * and needs nothing but the C library's memcpy and memset.
  *
  * Each slice is a pointer and a count of elements. A caller owes this, and nothing checks it: no pointer is null, also where the

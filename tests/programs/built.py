@@ -7,7 +7,8 @@ import sys
 
 TOP = pathlib.Path(__file__).resolve().parent.parent.parent
 BUILD = TOP / 'target' / 'calls'
-ARCHIVE = TOP / 'target' / 'staticlib' / 'libcalls.a'
+CALLS = TOP / 'crates' / 'calls'
+ARCHIVE = CALLS / 'out' / 'libcalls.a'
 
 
 def run(*command, **options):
@@ -23,15 +24,12 @@ def run(*command, **options):
 
 
 def archive():
-    """target/staticlib/libcalls.a: it is proved and written anew where a source of it is younger."""
+    """crates/calls/out/libcalls.a: it is proved and written anew where a source of it is younger."""
     BUILD.mkdir(parents=True, exist_ok=True)
     sources = [TOP / 'crates.txt', TOP / 'toolchain']
     sources += [path for part in ('src', 'specs', 'proofs') for path in TOP.glob(f'crates/*/{part}/**/*')]
     if not ARCHIVE.exists() or ARCHIVE.stat().st_mtime < max(path.stat().st_mtime for path in sources):
-        crate = TOP / 'crates' / 'calls'
-        run('rt', 'lib', cwd=crate)
-        ARCHIVE.parent.mkdir(parents=True, exist_ok=True)
-        shutil.copyfile(crate / 'out' / 'libcalls.a', ARCHIVE)
+        run('rt', 'lib', cwd=CALLS)
     return ARCHIVE
 
 
