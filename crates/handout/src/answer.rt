@@ -173,8 +173,8 @@ pub fn write_out(
         TreeFits words.now places.now table.now request.n request.start request.target
         sentence.old derivation.old }
     ensures { NextPromise words.now table.now
-        (record { marks = marks.entry.now; tokens = sentence.old; rules = derivation.old }) result
-        (record { marks = marks.exit.now; tokens = sentence.new; rules = derivation.new }) }
+        (record { marks = marks.old; tokens = sentence.old; rules = derivation.old }) result
+        (record { marks = marks.new; tokens = sentence.new; rules = derivation.new }) }
 {
     let listed = list_tree(words, places, table, request, sentence, derivation);
     let tokens = listed.tokens;

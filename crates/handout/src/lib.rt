@@ -42,8 +42,8 @@ pub fn next(
     derivation: &mut [u16],
 ) -> NextAnswer
     ensures { NextPromise words.now table.now
-        (record { marks = marks.entry.now; tokens = sentence.old; rules = derivation.old }) result
-        (record { marks = marks.exit.now; tokens = sentence.new; rules = derivation.new }) }
+        (record { marks = marks.old; tokens = sentence.old; rules = derivation.old }) result
+        (record { marks = marks.new; tokens = sentence.new; rules = derivation.new }) }
 {
     let testing = table_test::test(words, table);
     let found = testing.answer;

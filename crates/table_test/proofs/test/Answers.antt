@@ -6,19 +6,19 @@ use borrow.Author.Rules.{rules}
 use Rattle.table_test.proofs.test.Goals as goal
 
 pub returns-in-Fault : goal.returns-in-Fault
-returns-in-Fault c = broken_not_its (broken_of _ c.read-reading.ensures.answer_value c.enum_told-1.given.1) c.not_its.ensures
+returns-in-Fault c = broken_not_its (broken_of _ c.read-reading.ensures.answer_value c.in-Fault.is) c.not_its.ensures
 
 pub passes-requires : goal.passes-requires
 passes-requires c =
     let read = c.read-reading.ensures in
-    begun_of _ read.0 read.1 c.answer-1.given.1
+    begun_of _ read.answer_value read.places_value c.in-Grammar.is
 
 pub returns-then-passes : goal.returns-then-passes
 returns-then-passes c =
     let read = c.read-reading.ensures in
     let passed = c.passes in
-    let begun = begun_of _ read.0 read.1 c.answer-1.given.1 in
-    record { tested = own_its begun _ (told passed.result passed.ensures c.if-passes.true); stand = read.1 }
+    let begun = begun_of _ read.answer_value read.places_value c.in-Grammar.is in
+    record { tested = own_its begun _ (told passed.result passed.ensures c.if-passes.true); stand = read.places_value }
 
 pub returns-in-Grammar : goal.returns-in-Grammar
 returns-in-Grammar c =

@@ -1,10 +1,5 @@
--- `handout::lister::list_symbols` meets its contract. The loop's invariant: the first i symbols are listed. Assumes nothing.
-use borrow.Author.Rules.{rules}
-use Prim.Native.Nat.{◌-◌}
-use lib.ListN.{length}
-use Rattle.handout.specs.Listing.{lengths}
-use Rattle.handout.proofs.ListerSteps.{Turn, tokens_kept, rules_kept, turns_begin, turn_goes_on, symbol_of_ready}
-use Rattle.handout.proofs.ListerSteps.{symbols_listed}
+-- `handout::lister::list_symbols` meets its contract: symbol by symbol. Assumes nothing.
+use Rattle.handout.proofs.ListerSteps.{turns_begin, turn_goes_on, symbol_of_ready, symbols_listed}
 use Rattle.handout.proofs.lister.list_symbols.Goals as goal
 
 pub loop-i-init : goal.loop-i-init
@@ -13,30 +8,10 @@ loop-i-init c =
     turns_begin a.words.now a.places.now a.table.now a.n _ _ _ _
 
 pub list_symbol-so-requires : goal.list_symbol-so-requires
-list_symbol-so-requires c =
-    let test = c in
-    let loop = test in
-    let start = loop in
-    symbol_of_ready start.requires loop.loop-i.invariant test.loop-i-test.true
+list_symbol-so-requires c = symbol_of_ready c.requires c.loop-i.invariant c.loop-i-test.true
 
 pub loop-i-preserved : goal.loop-i-preserved
-loop-i-preserved c =
-    let listed = c in
-    let test = listed in
-    let loop = test in
-    turn_goes_on loop.loop-i.invariant test.loop-i-test.true listed.list_symbol-so.ensures
-
-pub shape_of-sentence : goal.shape_of-sentence
-shape_of-sentence c =
-    let loop = c in
-    let start = loop in
-    tokens_kept (loop.loop-i.invariant.done.listed start.requires.g start.requires.known)
-
-pub shape_of-derivation : goal.shape_of-derivation
-shape_of-derivation c =
-    let loop = c in
-    let start = loop in
-    rules_kept (loop.loop-i.invariant.done.listed start.requires.g start.requires.known)
+loop-i-preserved c = turn_goes_on c.loop-i.invariant c.loop-i-test.true c.list_symbol-so.ensures
 
 pub returns : goal.returns
 returns c = symbols_listed c.loop-i.invariant c.loop-i-test.false

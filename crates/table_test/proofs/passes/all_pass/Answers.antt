@@ -9,11 +9,6 @@ use Rattle.table_test.proofs.TestsExact.{tests_exact}
 use borrow.Author.Rules.{rules}
 use Rattle.table_test.proofs.passes.all_pass.Goals as goal
 
-pub returns-then-table-length : goal.returns-then-table-length
-returns-then-table-length c g view e h =
-    let tests = (tests_exact g (bounds view) c.args.table.now).1 h in
-    omega (arith, tests.long, view.nonterminals, view.all_rules)
-
 pub returns-then-choices_pass : goal.returns-then-choices_pass
 returns-then-choices_pass c g view e =
     let tested = c.choices_pass in

@@ -10,9 +10,6 @@ use Rattle.table_test.proofs.Telling.{told, refuted}
 use borrow.Author.Rules.{rules}
 use Rattle.table_test.proofs.passes.choices_pass.Goals as goal
 
-pub loop-a-init : goal.loop-a-init
-loop-a-init c = (omega arith, λ k h. absurd (omega arith))
-
 pub loop-a-preserved : goal.loop-a-preserved
 loop-a-preserved c =
     let tested = c.choice_passes in (
@@ -20,12 +17,6 @@ loop-a-preserved c =
       below_more _ _ c.loop-a.invariant.1 (λ g view.
           told tested.result (tested.ensures g view) c.if-choice_passes.true),
     )
-
-pub returns-else-choice_passes : goal.returns-else-choice_passes
-returns-else-choice_passes c g view p =
-    let tested = c.choice_passes in
-    let here = p c.loop-a.a (omega (arith, view.nonterminals)) in
-    refuted tested.result (tested.ensures g view) c.if-choice_passes.false here
 
 pub returns : goal.returns
 returns c g view A lt = c.loop-a.invariant.1 A (omega (arith, view.nonterminals)) g view

@@ -9,7 +9,7 @@ use borrow.Author.Rules.{rules}
 use Rattle.table_test.proofs.passes.context_passes.Goals as goal
 
 pub returns-then-rules-by : goal.returns-then-rules-by
-returns-then-rules-by c g view p = omega (arith, below_rules view p.rule-by, c.rule-by.ensures)
+returns-then-rules-by c g view p = omega (arith, below_rules view p.rule, c.rule-by.ensures)
 
 pub returns-then-holds : goal.returns-then-holds
 returns-then-holds c g view =
@@ -18,7 +18,7 @@ returns-then-holds c g view =
     let index = c in
     let found = index_of a.places.now index.index.ensures index.wide.ensures in
     let symbols = c.right-symbols in
-    let read = symbols.ensures.0 ∙ ap (right_at a.words.now) found in
+    let read = symbols.ensures.result_value ∙ ap (right_at a.words.now) found in
     let place = c.wide-2.ensures ∙ c.place.ensures in
     let held = c.holds in
     says_same c.comes_to.result
@@ -33,7 +33,7 @@ returns c g view p =
     let index = c in
     let found = index_of a.places.now index.index.ensures index.wide.ensures in
     let symbols = c.right-symbols in
-    let read = symbols.ensures.0 ∙ ap (right_at a.words.now) found in
+    let read = symbols.ensures.result_value ∙ ap (right_at a.words.now) found in
     let place = c.wide-2.ensures ∙ c.place.ensures in
     let held = c.holds in
     refuted held.result held.ensures c.if-holds.false

@@ -9,13 +9,13 @@ pub returns-then-size-eq0 : goal.returns-then-size-eq0
 returns-then-size-eq0 c g e p =
     let sized = c.size_passes-size in
     let right = c.right in
-    places_fail (rw (right.ensures.0, e) at sized.ensures.0) c.if-size-eq0.true p.places
+    places_fail (rw (right.ensures.result_value, e) at sized.ensures.size_passes) c.if-size-eq0.true p.places
 
 pub returns : goal.returns
 returns c g e =
     let read = c.read in
     let sized = c.size_passes-size in
     let right = c.right in
-    let z = rw (right.ensures.0, e) at sized.ensures.0 in
+    let z = rw (right.ensures.result_value, e) at sized.ensures.size_passes in
     says_same c.left_passes.result (rule_passes g (omega arith) z c.if-size-eq0.false)
     (rw read.ensures at c.left_passes.ensures)

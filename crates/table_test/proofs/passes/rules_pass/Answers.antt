@@ -13,9 +13,6 @@ use Rattle.table_test.proofs.RulesRead.{index_of, below_rules, rule_answered}
 use borrow.Author.Rules.{rules}
 use Rattle.table_test.proofs.passes.rules_pass.Goals as goal
 
-pub loop-r-init : goal.loop-r-init
-loop-r-init c = (omega arith, λ k h. absurd (omega arith))
-
 pub loop-r-preserved : goal.loop-r-preserved
 loop-r-preserved c =
     let a = c.args in

@@ -2,7 +2,6 @@
 -- length. Assumes nothing.
 use Prim.Native.Nat.{◌≤◌, ◌-◌}
 use native.Mathlib.Omega.{arith}
-use mathlib.Core.Logic.{⊎_elim}
 use borrow.Author.Rules.{rules}
 use lib.ListN.{length}
 use Rattle.table_test.proofs.Telling.{told, refuted}
