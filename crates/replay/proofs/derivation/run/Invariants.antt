@@ -1,14 +1,11 @@
 -- `replay::derivation::run` meets its contract: the loop's invariant is `Held`, with the bounds and the lengths of what is lent.
 -- The measure is what is to be done at most: tokens passed make it no more, and a step makes it less. Assumes nothing.
-use mathlib.Core.Path.{◌≡◌, refl}
-use native.Mathlib.Omega.{arith}
+use mathlib.Core.Path.{◌≡◌}
 use lib.ListN.{length}
 use Rattle.grammar.specs.Words.{Grammar}
 use Rattle.layout.specs.View.{View}
 use Rattle.replay.specs.ReplaySteps.{WithinBounds, to_do}
-use Rattle.replay.proofs.ReplayStepped.{passes_kept, passes_no_more}
-use Rattle.replay.proofs.ReplayRun.{Held, held_start, kept_start, onward, held_passed, held_on, held_end, held_stop}
-use borrow.Author.Rules.{rules}
+use Rattle.replay.proofs.ReplayRun.{Held}
 use Rattle.replay.proofs.derivation.run.Given as goal
 
 abbrev pub invariant-loop-more : goal.invariant-loop-more

@@ -1,14 +1,10 @@
 -- `replay::forms::put_words` meets its contract. The loop's invariant: the words up to an index are stored, as far as there is
 -- room. The measure is what is left of them. Assumes nothing.
-use Prim.Native.Nat.{ℕ, ◌+◌, ◌-◌, ◌≤◌}
-use native.Mathlib.Omega.{arith}
-use mathlib.Core.Path.{◌≡◌, refl, ◌∙◌, ap}
-use mathlib.Core.List.{List}
-use lib.ListN.{length, get_or, set}
+use Prim.Native.Nat.{◌+◌, ◌-◌, ◌≤◌}
+use mathlib.Core.Path.{◌≡◌}
+use lib.ListN.{length}
 use lib.Seq.{sets}
 use Rattle.replay.specs.Forms.{side}
-use Rattle.replay.proofs.FormSteps.{stored_none, stored_next}
-use borrow.Author.Rules.{rules}
 use Rattle.replay.proofs.forms.put_words.Given as goal
 
 abbrev pub invariant-loop-at : goal.invariant-loop-at

@@ -2,12 +2,12 @@
 -- measure is what is left of the right side. Assumes nothing.
 use Prim.Native.Nat.{ℕ, ◌+◌, ◌-◌, ◌≤◌}
 use native.Mathlib.Omega.{arith}
-use mathlib.Core.Path.{◌≡◌, refl, ◌∙◌, ap}
+use mathlib.Core.Path.{refl, ◌∙◌, ap}
 use mathlib.Core.List.{List}
-use lib.ListN.{length, get_or, set}
+use lib.ListN.{get_or, set}
 use lib.Seq.{sets}
 use Rattle.replay.specs.Forms.{side, TokensEnd}
-use Rattle.replay.proofs.FormSteps.{Tokens, tokens_more, stored_none, stored_next, passed}
+use Rattle.replay.proofs.FormSteps.{tokens_more, stored_none, stored_next, passed}
 use borrow.Author.Rules.{rules}
 use Rattle.replay.proofs.forms.store_tokens.Goals as goal
 

@@ -1,14 +1,11 @@
 -- `replay::forms::store_tokens` meets its contract. The loop's invariant: the words up to an index are tokens, and stored. The
 -- measure is what is left of the right side. Assumes nothing.
-use Prim.Native.Nat.{ℕ, ◌+◌, ◌-◌, ◌≤◌}
-use native.Mathlib.Omega.{arith}
-use mathlib.Core.Path.{◌≡◌, refl, ◌∙◌, ap}
-use mathlib.Core.List.{List}
-use lib.ListN.{length, get_or, set}
+use Prim.Native.Nat.{◌+◌, ◌-◌, ◌≤◌}
+use mathlib.Core.Path.{◌≡◌}
+use lib.ListN.{length}
 use lib.Seq.{sets}
-use Rattle.replay.specs.Forms.{side, TokensEnd}
-use Rattle.replay.proofs.FormSteps.{Tokens, tokens_more, stored_none, stored_next, passed}
-use borrow.Author.Rules.{rules}
+use Rattle.replay.specs.Forms.{side}
+use Rattle.replay.proofs.FormSteps.{Tokens}
 use Rattle.replay.proofs.forms.store_tokens.Given as goal
 
 abbrev pub invariant-loop-at : goal.invariant-loop-at

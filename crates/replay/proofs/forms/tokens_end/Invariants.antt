@@ -1,10 +1,7 @@
 -- `replay::forms::tokens_end` meets its contract. The loop's invariant: no word up to i is below n. The measure is what is left
 -- of the words. Assumes nothing.
-use Prim.Native.Nat.{◌+◌, ◌-◌, ◌≤◌}
-use native.Mathlib.Omega.{arith}
-use mathlib.Core.Path.{◌≡◌}
-use Rattle.replay.proofs.FormSteps.{Tokens, tokens_more}
-use borrow.Author.Rules.{rules}
+use Prim.Native.Nat.{◌-◌, ◌≤◌}
+use Rattle.replay.proofs.FormSteps.{Tokens}
 use Rattle.replay.proofs.forms.tokens_end.Given as goal
 
 abbrev pub invariant-loop-i : goal.invariant-loop-i

@@ -1,8 +1,8 @@
 -- `replay::rows::copy_front` meets its contract. The loop's invariant: the first i words are copied, and the others kept. The
 -- measure is what is left to copy. Assumes nothing.
-use Prim.Native.Nat.{ℕ, ◌+◌, ◌-◌, ◌≤◌}
+use Prim.Native.Nat.{ℕ}
 use native.Mathlib.Omega.{arith}
-use mathlib.Core.Path.{◌≡◌, refl, sym, ◌∙◌, ap}
+use mathlib.Core.Path.{◌≡◌, sym, ◌∙◌, ap}
 use mathlib.Core.List.{List, ◌++◌}
 use lib.ListN.{length, take, drop, get_or, set}
 use lib.Seq.{length-take-le}
@@ -16,15 +16,11 @@ copied : (from to : List ℕ) (n : ℕ) {to' : List ℕ} → length (take n from
 unfolding over
 copied from to n long e = e ∙ ap (λ (k : ℕ). take n from ++ drop k to) (sym long)
 
-pub loop-i-init : goal.loop-i-init
-loop-i-init c = (search rules, refl, refl)
-
 pub loop-i-preserved : goal.loop-i-preserved
 loop-i-preserved c =
     let at = c.loop-i in
     let a = c.args in
     let p = c.requires in
-    let kept = at.invariant.2 in
     let stored = ap (λ (l : List ℕ). set l at.i (get_or a.from.now at.i 0)) at.invariant.1 in
     let next = store_next a.from.now a.to.now at.i (omega (arith, p.0)) (omega (arith, p.1)) in
     (search rules, stored ∙ next, search rules)

@@ -13,39 +13,27 @@ run-requires c =
 
 pub returns-then-sentence-tokens : goal.returns-then-sentence-tokens
 returns-then-sentence-tokens c =
-    let ran = c in
-    let ((g, view), (few, room)) = ran.requires in
-    answers_3 view few (ran.run.ensures g view) c.tokens-1.given.1 (omega arith) refl
+    let ((g, view), (few, room)) = c.requires in
+    answers_3 view few (c.run.ensures g view) c.in-Sentence.is (omega arith) refl
 
 pub returns-then-tokens-aside : goal.returns-then-tokens-aside
 returns-then-tokens-aside c =
-    let copied = c in
-    let fits = copied in
-    let counted = fits in
-    let ran = counted in
-    let ((g, view), (few, room)) = ran.requires in
-    answers_aside view few (ran.run.ensures g view) counted.tokens-1.given.1 (omega (arith, fits.if-tokens-aside.true))
-    (omega (arith, fits.if-sentence-tokens.false)) copied.copy_front.ensures refl
+    let ((g, view), (few, room)) = c.requires in
+    answers_aside view few (c.run.ensures g view) c.in-Sentence.is (omega (arith, c.if-tokens-aside.true))
+    (omega (arith, c.if-sentence-tokens.false)) c.copy_front.ensures refl
 
 pub run-requires-in-Sentence : goal.run-requires-in-Sentence
 run-requires-in-Sentence c =
-    let ran = c in
-    let ((g, view), (few, room)) = ran.requires in
+    let ((g, view), (few, room)) = c.requires in
     (ground view few, (three_words view, search rules))
 
 pub returns-in-Stopped : goal.returns-in-Stopped
 returns-in-Stopped c =
-    let ran = c in
-    let ((g, view), (few, room)) = ran.requires in
-    answers_11 view few (ran.run.ensures g view) c.place-1.given.1 refl
+    let ((g, view), (few, room)) = c.requires in
+    answers_11 view few (c.run.ensures g view) c.in-Stopped.is refl
 
 pub returns-else-tokens-aside : goal.returns-else-tokens-aside
 returns-else-tokens-aside c =
-    let written = c in
-    let other = written in
-    let counted = other in
-    let ran = counted in
-    let ((g, view), (few, room)) = ran.requires in
-    let first = ran.run.ensures g view in
-    let second = written.run-in-Sentence.ensures g view in
-    answers_done view few first counted.tokens-1.given.1 (omega (arith, other.if-sentence-tokens.false)) second refl
+    let ((g, view), (few, room)) = c.requires in
+    let second = c.run-in-Sentence.ensures g view in
+    answers_done view few (c.run.ensures g view) c.in-Sentence.is (omega (arith, c.if-sentence-tokens.false)) second refl
