@@ -9,7 +9,7 @@ use lib.ListN.{length, get_or}
 use Rattle.packed.specs.declared.FileAnswer.{FileAnswer}
 use Rattle.packed.specs.File.{file_of, said, following, words_in}
 use Rattle.packed.specs.Promise.{NotVersionOne, BadLength, Unpacked, Packed}
-use Rattle.packed.specs.Promise.NotVersionOne.{empty, first_not_one}
+use Rattle.packed.specs.Promise.NotVersionOne.{first_not_one}
 use Rattle.packed.specs.Promise.BadLength.{under_three, odd, above, not_following}
 use Rattle.packed.specs.Promise.Unpacked.{wrong_version, wrong_length, no-room-for-words, all_words}
 use Rattle.packed.specs.Promise.Packed.{too_many, no-room-for-file, whole-file}

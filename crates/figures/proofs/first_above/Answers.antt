@@ -1,10 +1,10 @@
 -- `figures::first_above` meets its contract: no figure that the loop has passed is above most. The measure is what is
 -- left of n. Assumes nothing.
-use Prim.Native.Nat.{ℕ, ◌≤◌, ◌<◌, ◌-◌}
+use Prim.Native.Nat.{◌<◌}
 use native.Mathlib.Omega.{arith}
 use borrow.Author.Count.{below_more}
 use borrow.Author.Rules.{rules}
-use Rattle.figures.specs.Figures.{figure, found_at, found_none}
+use Rattle.figures.specs.Figures.{found_at, found_none}
 use Rattle.figures.proofs.first_above.Goals as goal
 
 pub returns-then-most-figure_at : goal.returns-then-most-figure_at

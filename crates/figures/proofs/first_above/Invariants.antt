@@ -1,10 +1,7 @@
 -- `figures::first_above` meets its contract: no figure that the loop has passed is above most. The measure is what is
 -- left of n. Assumes nothing.
 use Prim.Native.Nat.{ℕ, ◌≤◌, ◌<◌, ◌-◌}
-use native.Mathlib.Omega.{arith}
-use borrow.Author.Count.{below_more}
-use borrow.Author.Rules.{rules}
-use Rattle.figures.specs.Figures.{figure, found_at, found_none}
+use Rattle.figures.specs.Figures.{figure}
 use Rattle.figures.proofs.first_above.Given as goal
 
 abbrev pub invariant-loop-a : goal.invariant-loop-a

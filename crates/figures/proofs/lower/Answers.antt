@@ -1,7 +1,6 @@
 -- `figures::lower` meets its contract: each `return` is one of `Lowered`'s cases. Assumes nothing.
 use Prim.Native.Nat.{◌<◌}
 use native.Mathlib.Omega.{arith}
-use borrow.Author.Rules.{rules}
 use lib.ListN.{length}
 use Rattle.figures.specs.Figures.{fell, stayed}
 use Rattle.figures.proofs.FiguresFall.{figure_is}

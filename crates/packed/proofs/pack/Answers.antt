@@ -4,9 +4,7 @@ use mathlib.Core.Path.{◌≡◌, ◌∙◌}
 use mathlib.Core.List.{List}
 use Prim.Native.Nat.{ℕ, ◌+◌, ◌*◌, ◌≤◌, ◌<◌}
 use native.Mathlib.Omega.{arith}
-use borrow.Author.Rules.{rules}
-use lib.ListN.{length, set, length-set}
-use lib.Seq.{lt-length-set}
+use lib.ListN.{length}
 use Rattle.packed.specs.declared.FileAnswer.TheVariants.{Done, Refused}
 use Rattle.packed.specs.File.{file_of}
 use Rattle.answers.specs.Buffers.{over}
@@ -30,37 +28,13 @@ returns-then-count-gt-MOST_WORDS c = rw c.refuse.ensures (too_many (omega arith)
 
 pub returns-then-file-needed : goal.returns-then-file-needed
 returns-then-file-needed c =
-    let a = c.args in
-    rw c.refuse-then-file-needed.ensures (no_room a.words.now a.file-1.now (omega arith) (omega arith))
+    rw c.refuse-then-file-needed.ensures (no_room c.args.words.now c.args.file.now (omega arith) (omega arith))
 
--- the file's buffer is long enough for the header
-three : (c : tie.Else2) → 2 < length c.args.file.now
-three c = omega arith
-
-pub bounds-file-1 : goal.bounds-file-1
-bounds-file-1 c =
-    lt-length-set c.args.file.now 0 _ (omega (arith, three c))
-
-pub bounds-file : goal.bounds-file
-bounds-file c =
-    let at-else = c in
-    let file = at-else.args.file.now in
-    lt-length-set (set file 0 1) 1 _ (lt-length-set file 0 1 (three at-else))
-
-pub write_words-requires : goal.write_words-requires
-write_words-requires c =
-    let at-else = c in
-    let a = at-else.args in (
-      simp length-set (omega arith),
-      header a.words.now a.file-1.now _ _ (three at-else) c.high.ensures c.low.ensures,
-    )
-
-pub shape_of-file : goal.shape_of-file
-shape_of-file c = c.write_words.auto.1.0 ∙ simp length-set
+pub write_words-requires-clause-file_value : goal.write_words-requires-clause-file_value
+write_words-requires-clause-file_value c =
+    header c.args.words.now c.args.file.now _ _ (omega arith) c.high.ensures c.low.ensures
 
 pub returns : goal.returns
 returns c =
-    let at-else = c in
-    let a = at-else.args in
-    whole a.words.now a.file-1.now _ (omega arith) (omega arith)
-    (c.write_words.ensures ∙ over_header a.words.now a.file-1.now _ _ _)
+    whole c.args.words.now c.args.file.now _ (omega arith) (omega arith)
+    (c.write_words.ensures ∙ over_header c.args.words.now c.args.file.now _ _ _)

@@ -1,13 +1,10 @@
 -- `packed::read_block` meets its contract. The invariant of its loop: the first j of the block are spelled. The measure is the
 -- block's length less j. Assumes nothing.
-use mathlib.Core.Path.{◌≡◌, ◌∙◌}
-use Prim.Native.Nat.{ℕ, ◌+◌, ◌*◌, ◌-◌, ◌/◌, ◌%◌, ◌≤◌, ◌<◌}
-use native.Mathlib.Omega.{arith}
-use borrow.Author.Rules.{rules}
-use lib.ListN.{length, get_or}
-use Rattle.packed.specs.File.{word_of}
+use mathlib.Core.Path.{◌≡◌}
+use Prim.Native.Nat.{◌-◌, ◌≤◌}
+use lib.ListN.{length}
 use Rattle.packed.specs.Blocks.{Spells}
-use Rattle.packed.proofs.BlockFilled.{Each, each_more}
+use Rattle.packed.proofs.BlockFilled.{Each}
 use Rattle.packed.proofs.read_block.Given as goal
 
 abbrev pub invariant-loop-j : goal.invariant-loop-j

@@ -1,14 +1,10 @@
 -- `packed::read_front` meets its contract. The invariant of its loop: i is at most `count`, and `words` holds the first i words
 -- that the file spells and its own from there on. The measure is `count` less i. Assumes nothing.
-use mathlib.Core.Path.{◌≡◌, sym, ◌∙◌}
+use mathlib.Core.Path.{◌≡◌}
 use mathlib.Core.List.{◌++◌}
-use Prim.Native.Nat.{◌+◌, ◌*◌, ◌-◌, ◌/◌, ◌%◌, ◌≤◌, ◌<◌}
-use native.Mathlib.Omega.{arith}
-use borrow.Author.Rules.{rules}
-use lib.ListN.{length, take, drop, get_or}
-use Rattle.packed.specs.File.{word_of, words_in}
-use Rattle.packed.proofs.WordsAndOctets.{length_words_in, words_in_at}
-use Rattle.answers.proofs.WrittenFromFront.{all_over, store_next}
+use Prim.Native.Nat.{◌-◌, ◌≤◌}
+use lib.ListN.{length, take, drop}
+use Rattle.packed.specs.File.{words_in}
 use Rattle.packed.proofs.read_front.Given as goal
 
 abbrev pub invariant-loop-i : goal.invariant-loop-i

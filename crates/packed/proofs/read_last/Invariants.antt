@@ -1,15 +1,10 @@
 -- `packed::read_last` meets its contract. The invariant of its loop: words holds the words before the block and j of it, and its
 -- own from there on. The measure is the block's length less j. Assumes nothing.
-use mathlib.Core.Path.{◌≡◌, sym, ap, ◌∙◌}
-use mathlib.Core.List.{List, ◌++◌}
-use Prim.Native.Nat.{ℕ, ◌+◌, ◌*◌, ◌-◌, ◌≤◌, ◌<◌}
-use native.Mathlib.Omega.{arith}
-use native.Mathlib.Nat.{add-zero}
-use borrow.Author.Rules.{rules}
-use lib.ListN.{length, take, drop, get_or, take-append-drop}
+use mathlib.Core.Path.{◌≡◌}
+use mathlib.Core.List.{◌++◌}
+use Prim.Native.Nat.{◌+◌, ◌-◌, ◌≤◌}
+use lib.ListN.{length, take, drop}
 use Rattle.packed.specs.File.{words_in}
-use Rattle.packed.proofs.WordsAndOctets.{length_words_in, words_in_at}
-use Rattle.answers.proofs.WrittenFromFront.{all_over, store_next}
 use Rattle.packed.proofs.read_last.Given as goal
 
 abbrev pub invariant-loop-j : goal.invariant-loop-j

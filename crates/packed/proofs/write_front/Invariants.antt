@@ -1,16 +1,11 @@
 -- `packed::write_front` meets its contract. The invariant of its loop: i is at most the number of words, and `file` holds the
 -- first `3 + 2 i` octets of the words' file and its own from there on. The measure is the number of words less i.
 -- Assumes nothing.
-use mathlib.Core.Path.{◌≡◌, sym, ap, ◌∙◌}
-use mathlib.Core.List.{List, ◌++◌}
-use Prim.Native.Nat.{ℕ, ◌+◌, ◌*◌, ◌-◌, ◌≤◌, ◌<◌}
-use native.Mathlib.Omega.{arith}
-use borrow.Author.Rules.{rules}
-use lib.ListN.{length, take, drop, take-append-drop}
+use mathlib.Core.Path.{◌≡◌}
+use mathlib.Core.List.{◌++◌}
+use Prim.Native.Nat.{◌+◌, ◌*◌, ◌-◌, ◌≤◌}
+use lib.ListN.{length, take, drop}
 use Rattle.packed.specs.File.{file_of}
-use Rattle.packed.proofs.WordsAndOctets.{length-file_of, file_of_high, file_of_low}
-use Rattle.answers.proofs.WrittenFromFront.{all_over}
-use Rattle.packed.proofs.WrittenFront.{store_two}
 use Rattle.packed.proofs.write_front.Given as goal
 
 abbrev pub invariant-loop-i : goal.invariant-loop-i

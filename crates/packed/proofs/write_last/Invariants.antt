@@ -1,16 +1,10 @@
 -- `packed::write_last` meets its contract. The invariant of its loop: file holds the octets before the block and those of j words
 -- of it, and its own from there on. The measure is the block's length less j. Assumes nothing.
-use mathlib.Core.Path.{◌≡◌, sym, ap, ◌∙◌}
-use mathlib.Core.List.{List, ◌++◌}
-use Prim.Native.Nat.{ℕ, ◌+◌, ◌*◌, ◌-◌, ◌≤◌, ◌<◌}
-use native.Mathlib.Omega.{arith}
-use native.Mathlib.Nat.{add-zero}
-use borrow.Author.Rules.{rules}
-use lib.ListN.{length, take, drop, take-append-drop}
+use mathlib.Core.Path.{◌≡◌}
+use mathlib.Core.List.{◌++◌}
+use Prim.Native.Nat.{◌+◌, ◌*◌, ◌-◌, ◌≤◌}
+use lib.ListN.{length, take, drop}
 use Rattle.packed.specs.File.{file_of}
-use Rattle.packed.proofs.WordsAndOctets.{length-file_of, file_of_high, file_of_low}
-use Rattle.answers.proofs.WrittenFromFront.{all_over}
-use Rattle.packed.proofs.WrittenFront.{store_two}
 use Rattle.packed.proofs.write_last.Given as goal
 
 abbrev pub invariant-loop-j : goal.invariant-loop-j
