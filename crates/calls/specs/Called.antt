@@ -1,13 +1,9 @@
 -- What each call promises other languages: there is an answer of which the promise of the layer's own call holds with these
 -- buffers, and the four numbers are that answer's. Assumes nothing.
 use Rattle.std.specs.Prelude.{ℕ, ◌≡◌, List}
-use Rattle.packed.specs.declared.FileAnswer.{FileAnswer}
 use Rattle.packed.specs.Promise.{Unpacked, Packed}
-use Rattle.tables.specs.declared.TableAnswer.{TableAnswer}
 use Rattle.tables.specs.Promise.{Tables}
-use Rattle.handout.specs.declared.NextAnswer.{NextAnswer}
 use Rattle.handout.specs.Next.{Lent, NextPromise}
-use Rattle.replay.specs.declared.ReplayAnswer.{ReplayAnswer}
 use Rattle.replay.specs.Replay.{Replay}
 use Rattle.calls.specs.Numbers.{of_file, of_table, of_next, of_replay}
 

@@ -1,4 +1,4 @@
-// The five calls for programs in other languages: `rt staticlib calls` writes an archive that C, Rust, Fortran or Python link, and
+// The five calls for programs in other languages: `rt lib` here writes an archive that C, Rust, Fortran or Python link, and
 // include/vanchiluk.h declares what stands in it. Each slice passes as a pointer and a length, counted in its elements; `answer`
 // points at four 64-bit numbers: the answer's kind, its values, and zeros (specs/Numbers).
 //
@@ -47,9 +47,9 @@ pub extern "C" fn vanchiluk_next(
     answer: &mut [u64; 4],
 )
     ensures { NextCalled words.now table.now
-        (record { marks = marks.entry.now; tokens = sentence.old; rules = derivation.old })
+        (record { marks = marks.old; tokens = sentence.old; rules = derivation.old })
         answer.new
-        (record { marks = marks.exit.now; tokens = sentence.new; rules = derivation.new }) }
+        (record { marks = marks.new; tokens = sentence.new; rules = derivation.new }) }
 {
     *answer = numbers::of_next(handout::next(words, table, marks, sentence, derivation));
 }

@@ -5,8 +5,8 @@ use Prim.Native.Nat.{ℕ, zero, suc, ◌≤◌, ◌<◌}
 use native.Mathlib.Omega.{arith}
 use mathlib.Core.Path.{◌≡◌, refl}
 use mathlib.Core.List.{List, [], ◌∷◌, ◌++◌}
-use Rattle.grammar.specs.Words.{Grammar, Rule, ◌⟶◌, RuleAt, All}
-use Rattle.grammar.specs.Derivation.{Step, step, Steps, none, more, Start}
+use Rattle.grammar.specs.Words.{Grammar, ◌⟶◌, RuleAt, All}
+use Rattle.grammar.specs.Derivation.{step, Steps, none, more}
 use Rattle.grammar.specs.Tree.{Tree, node, nil, child}
 use Rattle.grammar.specs.Refusals.{Lowest, AllTrees, Reached, Unreached}
 

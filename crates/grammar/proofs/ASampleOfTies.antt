@@ -5,10 +5,10 @@
 use Prim.Native.Nat.{ℕ, zero, suc, ◌+◌, ◌≤◌, ◌<◌}
 use native.Mathlib.Omega.{arith}
 use mathlib.Core.Path.{◌≡◌, refl}
-use mathlib.Core.Logic.{◌⊎◌, inl, inr}
+use mathlib.Core.Logic.{inl, inr}
 use mathlib.Core.List.{List, [], ◌∷◌}
 use lib.ListN.{length}
-use Rattle.grammar.specs.Words.{Grammar, Rule, ◌⟶◌, RuleAt}
+use Rattle.grammar.specs.Words.{Grammar, ◌⟶◌, RuleAt}
 use Rattle.grammar.specs.Tree.{Tree, Forest, node, nil, leaf, child, Gap, here, past_leaf, past_child, Open, root, down}
 use Rattle.grammar.specs.Measure.{tree_cost, forest_cost, gap_cost, open_cost}
 use Rattle.grammar.specs.Least.{Least, Sizes, no_symbols, terminal, nonterminal, RuleSize, Chosen, Context}

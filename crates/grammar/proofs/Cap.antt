@@ -2,7 +2,6 @@
 -- and capped again is the cap of the sum. A limit is a property of costs that the cap decides, and below which the cap changes
 -- nothing. Document 01's measure is capped at L + 1 for the limit L: the sums never wrap, and are above L exactly where the true
 -- ones are. Assumes nothing.
-use native.Mathlib.Omega.{arith}
 use mathlib.Core.Path.{◌≡◌}
 use Rattle.grammar.specs.Measure.{Cost}
 use Rattle.grammar.specs.Caps.{Cap, Limit}

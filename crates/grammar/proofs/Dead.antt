@@ -17,7 +17,7 @@ use Rattle.grammar.specs.Tree.{Tree, Forest, Gap, here, past_leaf, past_child, O
 use Rattle.grammar.specs.Refusals.{AllTrees, Reached, AllReached}
 use Rattle.grammar.specs.Certificates.{Holds, Stuck, Closed}
 use Rattle.grammar.proofs.Places.{place_of}
-use Rattle.grammar.proofs.OpenEach.{Carries, CarriesGap, forest_of, gap_of}
+use Rattle.grammar.proofs.OpenEach.{Carries, CarriesGap, gap_of}
 use Rattle.grammar.proofs.AlongMembers.{along_members}
 use Rattle.grammar.proofs.Coverage.{steps_trans}
 

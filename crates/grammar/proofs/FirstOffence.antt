@@ -18,7 +18,7 @@ use lib.Seq.{take_all, take-take}
 use native.Mathlib.Decide.{dec_lt}
 use borrow.Author.Tests.{ltb-true, lt-ltb}
 use Rattle.grammar.specs.Words.{Grammar, Rule, ◌⟶◌, Judged, reads, faults, test, Body, body, no_symbol, with_symbol}
-use Rattle.grammar.specs.Words.{FaultAt, InBounds, Viable, ends_early, offends, words}
+use Rattle.grammar.specs.Words.{FaultAt, Viable, ends_early, offends, words}
 use Rattle.grammar.specs.Words.{with_left, with_head, lefts, counts, symbols, layout}
 use Rattle.grammar.proofs.ConstructorsDiffer.{reads_not_faults}
 use Rattle.grammar.proofs.LayoutExact.{layout_exact}

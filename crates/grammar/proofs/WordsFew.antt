@@ -6,7 +6,7 @@ use mathlib.Core.Path.{◌≡◌}
 use Prim.Native.Nat.{ℕ, ◌*◌, ◌≤◌}
 use native.Mathlib.Omega.{arith}
 use lib.ListN.{length, length-append}
-use Rattle.grammar.specs.Words.{Grammar, Rule, ◌⟶◌, rule_words, rules_words, words, RulesOk, InBounds, layout, reads}
+use Rattle.grammar.specs.Words.{Grammar, Rule, ◌⟶◌, rule_words, rules_words, RulesOk, layout, reads}
 use Rattle.grammar.proofs.LayoutExact.{layout_exact}
 
 rules_few : (N T : ℕ) (rs : List Rule) → RulesOk N T rs → length (rules_words rs) ≤ 34 * length rs

@@ -2,7 +2,7 @@
 -- Each figure is a relation (`Least A x`: x is Least(A)), because a grammar may have no tree to measure; that each is unique,
 -- and exists where all nonterminals have trees and are reached, are laws (proofs/).
 -- Assumes nothing.
-use Rattle.std.specs.Prelude.{ℕ, zero, suc, ◌+◌, ◌≤◌, ◌<◌, ◌≡◌, ◌⊎◌, List, [], ◌∷◌}
+use Rattle.std.specs.Prelude.{ℕ, suc, ◌≤◌, ◌<◌, ◌≡◌, ◌⊎◌, List, [], ◌∷◌}
 use Rattle.grammar.specs.Words.{Grammar, RuleAt}
 use Rattle.grammar.specs.Tree.{Tree, Forest, node, nil, leaf, child, Gap, here, past_leaf, past_child, Open, root, down}
 use Rattle.grammar.specs.Tree.{plug}

@@ -2,7 +2,7 @@
 -- place, are the crate answers; the conditions of the other rows stand in the promises, with the buffers they speak of. What row
 -- 7 compares with is a parameter here; document 01's is the `limit` of Terms.antt.
 -- Assumes nothing.
-use Rattle.std.specs.Prelude.{ℕ, ◌≤◌, ◌<◌, ◌≡◌, List, ◌∷◌, ◌++◌}
+use Rattle.std.specs.Prelude.{ℕ, ◌≤◌, ◌<◌, List, ◌∷◌, ◌++◌}
 use Rattle.grammar.specs.Words.{Grammar, R}
 use Rattle.grammar.specs.Derivation.{Steps, Start}
 use Rattle.grammar.specs.Tree.{Tree}

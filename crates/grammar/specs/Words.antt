@@ -6,7 +6,7 @@
 -- break is said without a judge (`FaultAt`). That the three agree are laws (proofs/LayoutExact, proofs/FirstOffence).
 -- Assumes nothing.
 use Rattle.std.specs.Prelude.{Bool, true, false, ◌&&◌, ◌≡◌, List, [], ◌∷◌, ◌++◌, ℕ, zero, suc, ◌+◌, ◌≤◌, ◌<◌, ltb, leb, length, take}
-use Rattle.std.proofs.Math.Option.{Option, some}
+use Rattle.std.proofs.Math.Option.{some}
 use Rattle.std.proofs.Math.ListN.{get_elem?}
 
 -- A rule A ⟶ w: a left side and the symbols of the right side. A symbol is its word: whether it is a nonterminal is whether it is

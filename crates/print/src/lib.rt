@@ -1,6 +1,7 @@
 // Lines on standard output, for the programs that run the proved calls. Assumes nothing of its own. Whether a write
 // succeeds is not asked: a line that is missing shows in what the program is held to.
 #![tactic(auto)]
+
 // The file that is standard output.
 const STDOUT: i32 = 1;
 

@@ -7,9 +7,7 @@ use mathlib.Core.Bool.{Bool, true, false}
 use mathlib.Core.Logic.{◌⊎◌, inl, inr}
 use mathlib.Core.List.{List, ◌++◌, append_assoc}
 use lib.ListN.{length, take, drop, length-append}
-use lib.Dec.{leb}
 use lib.Seq.{take_at, length-take-le}
-use borrow.Author.Tests.{leb-true, leb-false}
 use Rattle.grammar.specs.Words.{Grammar}
 use Rattle.grammar.specs.Terms.{limit}
 use Rattle.grammar.proofs.LayoutExact.{in_bounds}
@@ -150,11 +148,11 @@ module _ {words table marks text : List ℕ} {so : Piece} where
       go (inr k) l room = k
 
 -- what the code's test for room says
-pub room_left : {w l : ℕ} → w ≤ l → leb most_line (l - w) ≡ true → w + most_line ≤ l
-room_left {w} {l} h e = omega (arith, leb-true most_line (l - w) e)
+pub room_left : {w l : ℕ} → w ≤ l → most_line ≤ l - w → w + most_line ≤ l
+room_left h e = omega arith
 
-pub no_room_left : {w l : ℕ} → w ≤ l → leb most_line (l - w) ≡ false → l < w + most_line
-no_room_left {w} {l} h e = omega (arith, leb-false most_line (l - w) e)
+pub no_room_left : {w l : ℕ} → w ≤ l → l - w < most_line → l < w + most_line
+no_room_left h e = omega arith
 
 -- TURNS that are left: none where it is over, else one for each rule but those that have a sentence already, and one for the end
 abbrev pub turns : Bool → ℕ → ℕ

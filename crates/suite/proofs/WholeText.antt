@@ -1,6 +1,6 @@
 -- WHOLE TEXT: the pieces of successive calls, joined, are the text so far, and the text of the file once it is over; and it is over
 -- in time. Assumes nothing.
-use Prim.Native.Nat.{ℕ, ◌+◌, ◌≤◌}
+use Prim.Native.Nat.{ℕ, ◌≤◌}
 use native.Mathlib.Omega.{arith}
 use mathlib.Core.Path.{◌≡◌, refl}
 use mathlib.Core.Bool.{true, false}

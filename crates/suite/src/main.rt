@@ -157,8 +157,8 @@ fn answered(
 ) -> Piece
     requires { so.count ≤ 256 }
     ensures { Answered words.now table.now
-        (record { marks = marks.entry.now; tokens = sentence.old; rules = derivation.old })
-        (record { marks = marks.exit.now; tokens = sentence.new; rules = derivation.new })
+        (record { marks = marks.old; tokens = sentence.old; rules = derivation.old })
+        (record { marks = marks.new; tokens = sentence.new; rules = derivation.new })
         text.old text.new so result }
 {
     match handout::next(words, table, marks, sentence, derivation) {

@@ -1,5 +1,5 @@
 -- `find` is safe and ends, and its answer is within the text. Assumes nothing.
-use Rattle.std.proofs.Common.{◌-◌, ◌≤◌, length, rules}
+use Rattle.std.proofs.Common.{◌-◌, ◌≤◌, length}
 use Rattle.cases.proofs.find.Given as goal
 
 abbrev pub invariant-loop-i : goal.invariant-loop-i

@@ -1,5 +1,5 @@
 -- `first_case` is safe and ends: `end` falls, and stays within the line. Assumes nothing.
-use Rattle.std.proofs.Common.{◌≤◌, length, rules}
+use Rattle.std.proofs.Common.{◌≤◌, length}
 use Rattle.cases.proofs.first_case.Given as goal
 
 abbrev pub invariant-loop-end : goal.invariant-loop-end

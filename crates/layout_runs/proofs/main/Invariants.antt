@@ -1,7 +1,6 @@
 -- `main` is safe and ends: at each turn less is left to read. Assumes nothing.
 use Prim.Native.Nat.{◌≤◌}
 use lib.ListN.{length}
-use borrow.Author.Rules.{rules}
 use Rattle.layout_runs.proofs.main.Given as goal
 
 abbrev pub invariant-loop-rest : goal.invariant-loop-rest

@@ -1,11 +1,8 @@
 -- `marks::mark_rules` meets its contract. The loop's invariant: the numbers passed are marked. The measure is what is
 -- left of the numbers. Assumes nothing.
-use Prim.Native.Nat.{◌-◌, ◌≤◌}
 use native.Mathlib.Omega.{arith}
 use mathlib.Core.Path.{◌≡◌}
-use lib.ListN.{take}
 use borrow.Author.Rules.{rules}
-use Rattle.marks.specs.Marks.{Marked}
 use Rattle.marks.proofs.MarksMet.{marked_none, marked_next, marked_all}
 use Rattle.marks.proofs.mark_rules.Goals as goal
 

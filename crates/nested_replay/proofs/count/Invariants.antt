@@ -1,9 +1,6 @@
 -- `count` is safe and ends: the count is at most `i`, which stays within the words. Assumes nothing.
 use Prim.Native.Nat.{◌≤◌, ◌-◌}
-use mathlib.Core.Logic.{⊎_elim}
-use native.Mathlib.Omega.{arith}
 use lib.ListN.{length}
-use borrow.Author.Rules.{rules}
 use Rattle.nested_replay.proofs.count.Given as goal
 
 abbrev pub invariant-loop-i : goal.invariant-loop-i

@@ -1,21 +1,16 @@
 -- `suite::fill` meets its contract. The loop's invariant: the buffers keep their lengths, and what waits is the text so far behind
 -- whatever was it at first (`Filling`). Each turn leaves one less (`turns`). Assumes nothing.
-use mathlib.Core.Path.{◌≡◌, refl}
-use lib.ListN.{length}
+use mathlib.Core.Path.{refl}
 use borrow.Author.Tests.{not-true, not-false}
-use Rattle.suite.proofs.MoreLines.{true_not_false, count_few, sentence_more, Filling, filling_begins, filling_goes_on, filling_ends}
-use Rattle.suite.proofs.MoreLines.{LineRoom, room_left, no_room_left, turns, turns_fall}
+use Rattle.suite.proofs.MoreLines.{true_not_false, count_few, sentence_more, filling_begins, filling_goes_on, filling_ends}
+use Rattle.suite.proofs.MoreLines.{room_left, no_room_left, turns_fall}
 use borrow.Author.Rules.{rules}
-use Rattle.grammar.specs.Terms.{limit}
 use Rattle.suite.proofs.fill.Goals as goal
 
 pub loop-so-init : goal.loop-so-init
 loop-so-init c =
     let large = c.requires.large in
     (refl, refl, search rules, search rules, (large.0, search rules, search rules), filling_begins c.requires.waits)
-
-pub overflow_sub-text : goal.overflow_sub-text
-overflow_sub-text c = c.loop-so.invariant.5.waits.within
 
 pub answered-so-requires : goal.answered-so-requires
 answered-so-requires c = count_few c.loop-so.invariant.5.waits.so_far (not-true _ c.loop-so-test.true)

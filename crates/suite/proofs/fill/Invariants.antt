@@ -1,11 +1,9 @@
 -- `suite::fill` meets its contract. The loop's invariant: the buffers keep their lengths, and what waits is the text so far behind
 -- whatever was it at first (`Filling`). Each turn leaves one less (`turns`). Assumes nothing.
-use mathlib.Core.Path.{◌≡◌, refl}
+use mathlib.Core.Path.{◌≡◌}
 use lib.ListN.{length}
-use borrow.Author.Tests.{not-true, not-false}
-use Rattle.suite.proofs.MoreLines.{true_not_false, count_few, sentence_more, Filling, filling_begins, filling_goes_on, filling_ends}
-use Rattle.suite.proofs.MoreLines.{LineRoom, room_left, no_room_left, turns, turns_fall}
-use borrow.Author.Rules.{rules}
+use Rattle.suite.proofs.MoreLines.{Filling}
+use Rattle.suite.proofs.MoreLines.{LineRoom, turns}
 use Rattle.grammar.specs.Terms.{limit}
 use Rattle.suite.proofs.fill.Given as goal
 

@@ -10,8 +10,10 @@ slice_bounds-fill-end c = sym (length-take-le _ _ (pieces_within c.requires.piec
 
 pub fill-requires : goal.fill-requires
 fill-requires c =
-    let start = c in
-    ((search rules, search rules), next_waits start.requires.piece_reached start.requires.over_value _)
+    record {
+      large = (search rules, search rules);
+      waits = next_waits c.requires.piece_reached c.requires.over_value _;
+    }
 
 pub returns : goal.returns
 returns c = next_made c.requires.over_value c.requires.large.1 c.fill.ensures

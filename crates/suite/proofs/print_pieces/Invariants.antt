@@ -1,17 +1,12 @@
 -- `suite::print_pieces` meets what the pieces require, writes each that was made, and ends. The loop's invariant: the pieces of
 -- successive calls for the file lead to here (`Pieces`). Each turn leaves one less (`turns`). Assumes nothing.
 use Prim.Native.Nat.{ℕ, ◌≤◌}
-use mathlib.Core.Path.{◌≡◌, sym}
-use mathlib.Core.List.{List, []}
+use mathlib.Core.Path.{◌≡◌}
+use mathlib.Core.List.{List}
 use lib.ListN.{length}
-use lib.Seq.{length-take-le}
-use borrow.Author.Rules.{rules}
-use borrow.Author.Tests.{not-true}
 use Rattle.lines.specs.Lines.{most_line}
-use Rattle.suite.specs.Pieces.{Pieces, first, next}
-use Rattle.suite.proofs.MoreLines.{count_few, turns, turns_fall}
-use Rattle.answers.proofs.Tabulate.{zeros}
-use Rattle.suite.proofs.WholeText.{pieces_so_far, piece_made}
+use Rattle.suite.specs.Pieces.{Pieces}
+use Rattle.suite.proofs.MoreLines.{turns}
 use Rattle.suite.proofs.print_pieces.Given as goal
 
 abbrev pub invariant-loop-is_written : goal.invariant-loop-is_written

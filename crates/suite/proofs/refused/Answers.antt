@@ -1,7 +1,6 @@
 -- `suite::refused` meets its contract. Assumes nothing.
 use native.Mathlib.Omega.{arith}
 use Rattle.suite.proofs.FirstLines.{one_line}
-use borrow.Author.Rules.{rules}
 use Rattle.suite.proofs.refused.Goals as goal
 
 pub returns : goal.returns

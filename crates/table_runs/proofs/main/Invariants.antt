@@ -1,5 +1,5 @@
 -- `main` is safe and ends: at each turn less is left to read. Assumes nothing.
-use Rattle.std.proofs.Common.{◌≤◌, length, rules}
+use Rattle.std.proofs.Common.{◌≤◌, length}
 use Rattle.table_runs.proofs.main.Given as goal
 
 abbrev pub invariant-loop-rest : goal.invariant-loop-rest

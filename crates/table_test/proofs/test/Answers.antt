@@ -2,7 +2,6 @@
 use Rattle.layout.proofs.WordsRead.{broken_of, begun_of}
 use Rattle.table_test.proofs.Telling.{told, refuted}
 use Rattle.table_test.proofs.WordsTested.{own_its, broken_not_its, other_not_its}
-use borrow.Author.Rules.{rules}
 use Rattle.table_test.proofs.test.Goals as goal
 
 pub returns-in-Fault : goal.returns-in-Fault

@@ -1,5 +1,5 @@
 -- `every` is safe and ends: what is left of the words shrinks. Assumes nothing.
-use Rattle.std.proofs.Common.{◌-◌, ◌≤◌, length, rules}
+use Rattle.std.proofs.Common.{◌-◌, ◌≤◌, length}
 use Rattle.cases.proofs.buffers.every.Given as goal
 
 abbrev pub invariant-loop-i : goal.invariant-loop-i

@@ -1,5 +1,5 @@
 -- `same` is safe and ends: `i` stays within the length. Assumes nothing.
-use Rattle.std.proofs.Common.{◌-◌, ◌≤◌, length, rules}
+use Rattle.std.proofs.Common.{◌-◌, ◌≤◌, length}
 use Rattle.cases.proofs.buffers.same.Given as goal
 
 abbrev pub invariant-loop-i : goal.invariant-loop-i

@@ -1,5 +1,5 @@
 -- `numbers` is safe and ends: `count` stays within the room, and `i` within the text. Assumes nothing.
-use Rattle.std.proofs.Common.{◌≡◌, ◌-◌, ◌≤◌, length, rules}
+use Rattle.std.proofs.Common.{◌≡◌, ◌-◌, ◌≤◌, length}
 use Rattle.cases.proofs.number.numbers.Given as goal
 
 abbrev pub invariant-loop-i : goal.invariant-loop-i

@@ -1,5 +1,5 @@
 -- `write` is safe and ends: it keeps the length, and `at` stays below `end`. Assumes nothing.
-use Rattle.std.proofs.Common.{◌≡◌, ◌-◌, ◌≤◌, length, rules}
+use Rattle.std.proofs.Common.{◌≡◌, ◌-◌, ◌≤◌, length}
 use Rattle.cases.proofs.number.write.Given as goal
 
 abbrev pub invariant-loop-at : goal.invariant-loop-at

@@ -1,5 +1,5 @@
 -- `write_octets` is safe and ends: it keeps the length, and `i` stays within both. Assumes nothing.
-use Rattle.std.proofs.Common.{◌≡◌, ◌-◌, ◌≤◌, length, rules}
+use Rattle.std.proofs.Common.{◌≡◌, ◌-◌, ◌≤◌, length}
 use Rattle.cases.proofs.number.write_octets.Given as goal
 
 abbrev pub invariant-loop-i : goal.invariant-loop-i

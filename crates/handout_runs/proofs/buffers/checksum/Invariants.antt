@@ -1,7 +1,6 @@
 -- `checksum` is safe and ends: `i` stays within the list. Assumes nothing.
 use Prim.Native.Nat.{◌≤◌, ◌-◌}
 use lib.ListN.{length}
-use borrow.Author.Rules.{rules}
 use Rattle.handout_runs.proofs.buffers.checksum.Given as goal
 
 abbrev pub invariant-loop-i : goal.invariant-loop-i

@@ -1,7 +1,6 @@
 -- `print_octets` is safe and ends: `i` stays within the octets. Assumes nothing.
 use Prim.Native.Nat.{◌≤◌, ◌-◌}
 use lib.ListN.{length}
-use borrow.Author.Rules.{rules}
 use Rattle.handout_runs.proofs.nexts.print_octets.Given as goal
 
 abbrev pub invariant-loop-i : goal.invariant-loop-i

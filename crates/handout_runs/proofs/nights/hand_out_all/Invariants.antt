@@ -2,7 +2,6 @@
 use Prim.Native.Nat.{◌≤◌, ◌-◌}
 use mathlib.Core.Path.{◌≡◌}
 use lib.ListN.{length}
-use borrow.Author.Rules.{rules}
 use Rattle.handout_runs.proofs.nights.hand_out_all.Given as goal
 
 abbrev pub invariant-loop-sentences : goal.invariant-loop-sentences

@@ -1,9 +1,6 @@
 -- `used` is safe and ends: the count is at most `i`, which stays within the marks. Assumes nothing.
 use Prim.Native.Nat.{◌≤◌, ◌-◌}
-use mathlib.Core.Logic.{⊎_elim}
-use native.Mathlib.Omega.{arith}
 use lib.ListN.{length}
-use borrow.Author.Rules.{rules}
 use Rattle.handout_runs.proofs.nights.used.Given as goal
 
 abbrev pub invariant-loop-i : goal.invariant-loop-i

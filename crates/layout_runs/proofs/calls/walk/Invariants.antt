@@ -1,6 +1,5 @@
 -- `walk` is safe and ends: the rules handed out are counted, and at most 257. Assumes nothing.
 use Prim.Native.Nat.{◌≤◌, ◌-◌}
-use borrow.Author.Rules.{rules}
 use Rattle.layout_runs.proofs.calls.walk.Given as goal
 
 abbrev pub invariant-loop-handed : goal.invariant-loop-handed

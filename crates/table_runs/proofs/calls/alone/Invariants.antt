@@ -1,5 +1,5 @@
 -- `alone` is safe and ends: it keeps the table's length, and `i` stays within it. Assumes nothing.
-use Rattle.std.proofs.Common.{◌≡◌, ◌-◌, ◌≤◌, length, rules}
+use Rattle.std.proofs.Common.{◌≡◌, ◌-◌, ◌≤◌, length}
 use Rattle.table_runs.proofs.calls.alone.Given as goal
 
 abbrev pub invariant-loop-i : goal.invariant-loop-i

@@ -6,7 +6,6 @@ use Rattle.entries.specs.Table.{table_length}
 use Rattle.table_test.proofs.Telling.{told, refuted, says_same}
 use Rattle.table_test.proofs.RulesRead.{bounds}
 use Rattle.table_test.proofs.TestsExact.{tests_exact}
-use borrow.Author.Rules.{rules}
 use Rattle.table_test.proofs.passes.all_pass.Goals as goal
 
 pub returns-then-choices_pass : goal.returns-then-choices_pass

@@ -1,13 +1,8 @@
 -- `table_test::passes::choices_pass` meets its contract: the choices of each nonterminal that the loop has passed are right. The
 -- measure is what is left of the nonterminals. Assumes nothing.
-use Prim.Native.Nat.{ℕ, ◌≤◌, ◌<◌, ◌-◌}
 use native.Mathlib.Omega.{arith}
 use borrow.Author.Count.{below_more}
-use Rattle.grammar.specs.Words.{Grammar}
-use Rattle.layout.specs.View.{View}
-use Rattle.table_test.specs.Passes.{ChoicePasses}
-use Rattle.table_test.proofs.Telling.{told, refuted}
-use borrow.Author.Rules.{rules}
+use Rattle.table_test.proofs.Telling.{told}
 use Rattle.table_test.proofs.passes.choices_pass.Goals as goal
 
 pub loop-a-preserved : goal.loop-a-preserved

@@ -6,7 +6,6 @@ use lib.ListN.{get_or}
 use Rattle.table_test.proofs.Telling.{says_same}
 use Rattle.table_test.proofs.RulesRead.{index_of, below_rules}
 use Rattle.table_test.proofs.ChoicesRead.{chosen_left, chosen_same}
-use borrow.Author.Rules.{rules}
 use Rattle.table_test.proofs.passes.chosen_passes.Goals as goal
 
 pub returns-then-rules-chosen : goal.returns-then-rules-chosen

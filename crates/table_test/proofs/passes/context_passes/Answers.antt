@@ -5,7 +5,6 @@ use Rattle.layout.specs.Rules.{right_at}
 use Rattle.table_test.proofs.Telling.{told, refuted, says_same}
 use Rattle.table_test.proofs.RulesRead.{index_of, below_rules}
 use Rattle.table_test.proofs.ChoicesRead.{context_holds, context_same}
-use borrow.Author.Rules.{rules}
 use Rattle.table_test.proofs.passes.context_passes.Goals as goal
 
 pub returns-then-rules-by : goal.returns-then-rules-by

@@ -5,7 +5,6 @@ use Rattle.grammar.specs.Certificates.{Holds}
 use Rattle.grammar.proofs.ContextsExist.{holds_below}
 use Rattle.table_test.proofs.Telling.{says_eq}
 use Rattle.grammar.proofs.ContextsExist.{holds_there, held_there}
-use borrow.Author.Rules.{rules}
 use Rattle.table_test.proofs.passes.holds.Goals as goal
 
 pub returns-then-symbols-place : goal.returns-then-symbols-place

@@ -1,6 +1,5 @@
 -- `table_test::passes::passes` meets its contract: the numbers of a grammar are words. Assumes nothing.
 use Rattle.table_test.proofs.WordsTested.{narrow_view, narrow_start, of_words}
-use borrow.Author.Rules.{rules}
 use Rattle.table_test.proofs.passes.passes.Goals as goal
 
 pub returns : goal.returns

@@ -2,7 +2,6 @@
 use native.Mathlib.Omega.{arith}
 use Rattle.table_test.proofs.Telling.{says_same}
 use Rattle.table_test.proofs.RulesRead.{places_fail, rule_passes}
-use borrow.Author.Rules.{rules}
 use Rattle.table_test.proofs.passes.rule_passes.Goals as goal
 
 pub returns-then-size-eq0 : goal.returns-then-size-eq0

@@ -1,16 +1,11 @@
 -- `table_test::passes::rules_pass` meets its contract: each rule that the loop has passed is right. The measure is what is left of
 -- the rules. Assumes nothing.
 use Prim.Native.Nat.{ℕ, ◌≤◌, ◌<◌, ◌-◌}
-use native.Mathlib.Omega.{arith}
 use mathlib.Core.List.{List}
-use borrow.Author.Count.{below_more}
 use Rattle.grammar.specs.Words.{Grammar, RuleAt}
 use Rattle.entries.specs.Table.{total_in}
 use Rattle.layout.specs.View.{View}
 use Rattle.table_test.specs.Passes.{RulePasses}
-use Rattle.table_test.proofs.Telling.{told, refuted}
-use Rattle.table_test.proofs.RulesRead.{index_of, below_rules, rule_answered}
-use borrow.Author.Rules.{rules}
 use Rattle.table_test.proofs.passes.rules_pass.Given as goal
 
 abbrev pub invariant-loop-r : goal.invariant-loop-r

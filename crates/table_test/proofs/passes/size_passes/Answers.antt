@@ -1,11 +1,8 @@
 -- `table_test::passes::size_passes` meets its contract: the loop's invariant is `Summed`. The measure is what is left of the
 -- length. Assumes nothing.
-use Prim.Native.Nat.{◌≤◌, ◌-◌}
 use native.Mathlib.Omega.{arith}
-use borrow.Author.Rules.{rules}
-use lib.ListN.{length}
 use Rattle.table_test.proofs.Telling.{told, refuted}
-use Rattle.table_test.proofs.PlacesSummed.{Summed, summed_none, summed_nonterminal, summed_terminal, summed_all, place_fails}
+use Rattle.table_test.proofs.PlacesSummed.{summed_nonterminal, summed_terminal, summed_all, place_fails}
 use Rattle.table_test.proofs.passes.size_passes.Goals as goal
 use Rattle.table_test.proofs.passes.size_passes.Goals.{then-s-n+then-place_passes, else-s-n}
 
