@@ -19,7 +19,7 @@ pub const LIMIT: usize = 4096;
 pub const NO_CHOICE: u16 = 65535;
 
 // The entries of a nonterminal.
-#[derive(Drop)]
+#[derive(Clone, Copy)]
 pub struct Entries {
     pub least: u16,
     pub chosen: u16,

@@ -13,7 +13,7 @@ pub const NO_FIGURE: u16 = 65535;
 pub const OVER: u16 = 4097;
 
 // A place, or nothing.
-#[derive(Drop)]
+#[derive(Clone, Copy)]
 pub enum Found {
     At(usize),
     Nothing,

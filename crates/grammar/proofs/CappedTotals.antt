@@ -133,11 +133,11 @@ module _ (c : Cost) (κ : Cap c) (g : Grammar) (v u : ℕ → c.C) where
               (part_left κ limit t, rw e (part_right κ limit t))
 
 -- REFUSAL 7 at any limit up to document 01's, by sums that stop at the ceiling
-module _ (l : ℕ) (up_to_lem : l ≤ limit) (g : Grammar) (v u : ℕ → ℕ) where
+module _ (l : ℕ) (up_to : l ≤ limit) (g : Grammar) (v u : ℕ → ℕ) where
   module _ (figures : CappedFigures measure measure_cap g v u) {r A : ℕ} {w : List ℕ} (rule : RuleAt g r A w) where
     pub oversize_exact : (l < stopped_total g v u A w) ↔ Oversize l g r
     oversize_exact =
-        let both = over_exact measure measure_cap g v u figures (measure_limit l up_to_lem) rule in
+        let both = over_exact measure measure_cap g v u figures (measure_limit l up_to) rule in
         (λ h. let z = both.0 h in record { total = z.0; is = z.1; above = z.2 }, λ o. both.1 (o.total, o.is, o.above))
 
     pub fits_exact : (stopped_total g v u A w ≤ l) ↔ Fits l g r
@@ -145,7 +145,7 @@ module _ (l : ℕ) (up_to_lem : l ≤ limit) (g : Grammar) (v u : ℕ → ℕ) w
       where
         to : stopped_total g v u A w ≤ l → Fits l g r
         to h =
-            let total = within_exact measure measure_cap g v u figures (measure_limit l up_to_lem) rule (λ o. omega arith) in
+            let total = within_exact measure measure_cap g v u figures (measure_limit l up_to) rule (λ o. omega arith) in
             record { total = stopped_total g v u A w; is = total; within = h }
 
         from : Fits l g r → stopped_total g v u A w ≤ l
@@ -153,7 +153,7 @@ module _ (l : ℕ) (up_to_lem : l ≤ limit) (g : Grammar) (v u : ℕ → ℕ) w
 
   -- what 7 does not refuse has exact figures
   pub all_fit_exact : CappedFigures measure measure_cap g v u → AllFit l g → Leasts measure g v × Contexts measure g v u
-  all_fit_exact figures fit = all_exact measure measure_cap g v u figures (measure_limit l up_to_lem) within
+  all_fit_exact figures fit = all_exact measure measure_cap g v u figures (measure_limit l up_to) within
     where
       within : (r A : ℕ) (w : List ℕ) → RuleAt g r A w → ¬ (l < stopped_total g v u A w)
       within r A w rule o =

@@ -20,7 +20,7 @@ use Rattle.grammar.specs.Least.{Context}
 use Rattle.grammar.specs.Refusals.{Reached, AllReached}
 use Rattle.grammar.proofs.RuleNumbers.{rule_left, rule_right, rule_below, rule_number, RuleOrNone, rule?}
 use Rattle.grammar.proofs.CostOrder.{le_of_eq, at_most_left}
-use Rattle.grammar.proofs.Places.{ElementOrNone, element?, place_of}
+use Rattle.grammar.proofs.Places.{ElementOrNone, element?, place_of_lem}
 use Rattle.grammar.specs.Certificates.{Holds, Closed, Leasts, others_size, Contexts}
 use Rattle.grammar.proofs.Totals.{context-start}
 use Rattle.grammar.proofs.Dead.{closed_reached, gap_nonterminal, open_reached}
@@ -173,7 +173,7 @@ module _ (c : Cost) (g : Grammar) (v : ℕ → c.C) (leasts : Leasts c g v) wher
     no_offer_closed : NoOffer c (Offered todo state) (R g) → Closed g (λ A. ¬ (A ∈ todo))
     no_offer_closed no_offer = record {
       start = not_start state;
-      names = λ k B w A r n m lt h. let (i, at) = place_of w A m in no_offer k _ (rule_number r) (offers i r n at lt h);
+      names = λ k B w A r n m lt h. let (i, at) = place_of_lem w A m in no_offer k _ (rule_number r) (offers i r n at lt h);
     }
 
   -- the start is settled by 𝟎, before any offer

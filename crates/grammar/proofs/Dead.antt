@@ -16,7 +16,7 @@ use Rattle.grammar.specs.Derivation.{Step, step, Steps, none, more, Start}
 use Rattle.grammar.specs.Tree.{Tree, Forest, Gap, here, past_leaf, past_child, Open, root, down, plug, StandsIn, ◌∈◌}
 use Rattle.grammar.specs.Refusals.{AllTrees, Reached, AllReached}
 use Rattle.grammar.specs.Certificates.{Holds, Stuck, Closed}
-use Rattle.grammar.proofs.Places.{place_of}
+use Rattle.grammar.proofs.Places.{place_of_lem}
 use Rattle.grammar.proofs.OpenEach.{Carries, CarriesGap, gap_of}
 use Rattle.grammar.proofs.AlongMembers.{along_members}
 use Rattle.grammar.proofs.Coverage.{steps_trans}
@@ -107,7 +107,7 @@ module _ {g : Grammar} (trees : AllTrees g) where
   pub reached_open : {A : ℕ} → Reached g A → A < g.N → Open g A
   reached_open z lt = closed_reached g (Open g) (record {
     start = root;
-    names = λ k B w A r x m l. let (i, at) = place_of w A m in down k r x (some_gap w i A l at);
+    names = λ k B w A r x m l. let (i, at) = place_of_lem w A m in down k r x (some_gap w i A l at);
   }) z lt
 
 -- DEAD: neither 5 nor 6 is met exactly where every nonterminal stands in some complete tree of the start

@@ -36,9 +36,9 @@ holds? w i A = go (element? w i)
         pick (no n) = no (λ k. n cc)
 
 -- what stands in w stands at a place
-pub place_of : (w : List ℕ) (A : ℕ) → A ∈ w → (i : ℕ) × Holds w i A
-place_of [] A m = absurd (Memᴰ.not-nil m)
-place_of (s ∷ w) A m = go (λ m'. place_of w A m') (Memᴰ.cases_cons m)
+pub place_of_lem : (w : List ℕ) (A : ℕ) → A ∈ w → (i : ℕ) × Holds w i A
+place_of_lem [] A m = absurd (Memᴰ.not-nil m)
+place_of_lem (s ∷ w) A m = go (λ m'. place_of_lem w A m') (Memᴰ.cases_cons m)
   where
     go : (A ∈ w → (i : ℕ) × Holds w i A) → (A ≡ s) ⊎ A ∈ w → (i : ℕ) × Holds (s ∷ w) i A
     go later (inl e) = (0, ap some (sym e))

@@ -35,7 +35,7 @@ plain_cap L = record {
 }
 
 abbrev pub plain_limit : (L l : ℕ) → l ≤ L → Limit plain (plain_cap L)
-plain_limit L l up_to_lem = record {
+plain_limit L l up_to = record {
   Over = λ x. l < x;
   decided = λ x. (λ h. omega arith, λ h. omega arith);
   exact = λ x h. omega arith;

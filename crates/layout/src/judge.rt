@@ -15,7 +15,7 @@ const MOST_TERMINALS: usize = 1024;
 const MOST_SYMBOLS: usize = 32;
 
 // What words are: a grammar, with its N, T, start and number of rules, or no grammar, with the place of the first fault.
-#[derive(Drop)]
+#[derive(Clone, Copy)]
 pub enum LayoutAnswer {
     Grammar {
         nonterminals: usize,

@@ -13,7 +13,7 @@ pub const MOST_RULES: usize = 256;
 
 // Where a rule stands in the words: its number, its left side, how many symbols it has, the index of the first and the index
 // past the last.
-#[derive(Drop)]
+#[derive(Clone, Copy)]
 pub struct RuleSpan {
     pub number: usize,
     pub left: usize,
@@ -22,7 +22,7 @@ pub struct RuleSpan {
     pub end: usize,
 }
 
-#[derive(Drop)]
+#[derive(Clone, Copy)]
 pub enum Step {
     Rule(RuleSpan),
     End,
@@ -37,7 +37,7 @@ pub struct RuleWalk<'a> {
 }
 
 // What a walk handed out, and the walk after it.
-#[derive(Drop)]
+#[derive(Clone, Copy)]
 pub struct Taken<'a> {
     pub step: Step,
     pub walk: RuleWalk<'a>,

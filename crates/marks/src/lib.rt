@@ -8,7 +8,7 @@ ghost use Rattle.marks.specs.Marks.{FirstUnused, Marked};
 use cells::wide;
 
 // The lowest unused rule, where there is one.
-#[derive(Drop)]
+#[derive(Clone, Copy)]
 pub enum LowestUnused {
     At(usize),
     None,

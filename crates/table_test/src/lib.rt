@@ -11,7 +11,7 @@ use layout::judge;
 use layout::judge::LayoutAnswer;
 
 // What `test` answers: the words are an accepted grammar and the table is its own, with N, the start and R of the grammar; or not.
-#[derive(Drop)]
+#[derive(Clone, Copy)]
 pub enum TableTest {
     Its {
         nonterminals: usize,
