@@ -39,8 +39,7 @@ pub fn first_case(text: &[u8]) -> &[u8] {
     &line[0..end]
 }
 
-// The lines after the first. A loop lays them in a local of the turn, and then in its own: the borrow checker covers no call whose
-// result replaces a reference.
+// The lines after the first.
 pub fn later_lines(text: &[u8]) -> &[u8]
     ensures { length result.now ≤ length text.now - 1 }
 {
