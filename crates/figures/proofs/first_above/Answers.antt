@@ -1,5 +1,4 @@
--- `figures::first_above` meets its contract: no figure that the loop has passed is above most. The measure is what is
--- left of n. Assumes nothing.
+-- What the check leaves of `figures::first_above`; the argument stands in Invariants.antt. Assumes nothing.
 use Prim.Native.Nat.{◌<◌}
 use native.Mathlib.Omega.{arith}
 use borrow.Author.Count.{below_more}

@@ -1,5 +1,4 @@
--- `marks::first_unused` meets its contract. The loop's invariant: no mark passed is 0. The measure is what is left of
--- the rules. Assumes nothing.
+-- What the check leaves of `marks::first_unused`; the argument stands in Invariants.antt. Assumes nothing.
 use native.Mathlib.Omega.{arith}
 use lib.ListN.{get_or-eq_default}
 use borrow.Author.Count.{below_more}

@@ -1,5 +1,4 @@
--- `marks::mark_rules` meets its contract. The loop's invariant: the numbers passed are marked. The measure is what is
--- left of the numbers. Assumes nothing.
+-- What the check leaves of `marks::mark_rules`; the argument stands in Invariants.antt. Assumes nothing.
 use native.Mathlib.Omega.{arith}
 use mathlib.Core.Path.{◌≡◌}
 use borrow.Author.Rules.{rules}
@@ -16,10 +15,8 @@ returns-then-derivation-i c =
 
 pub loop-i-preserved : goal.loop-i-preserved
 loop-i-preserved c =
-    let marked = c in
-    let read = marked in
-    let here = read.loop-i in
-    let one = rw read.wide.ensures at marked.mark_one.ensures in
+    let here = c.loop-i in
+    let one = rw c.wide.ensures at c.mark_one.ensures in
     (search rules, marked_next _ here.i (omega arith) here.invariant.1 one)
 
 pub returns : goal.returns

@@ -1,5 +1,4 @@
--- `packed::read_block` meets its contract. The invariant of its loop: the first j of the block are spelled. The measure is the
--- block's length less j. Assumes nothing.
+-- What the check leaves of `packed::read_block`; the argument stands in Invariants.antt. Assumes nothing.
 use mathlib.Core.Path.{◌≡◌, ◌∙◌}
 use Prim.Native.Nat.{◌+◌, ◌*◌, ◌/◌, ◌%◌}
 use native.Mathlib.Omega.{arith}

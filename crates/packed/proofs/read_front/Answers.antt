@@ -1,5 +1,4 @@
--- `packed::read_front` meets its contract. The invariant of its loop: i is at most `count`, and `words` holds the first i words
--- that the file spells and its own from there on. The measure is `count` less i. Assumes nothing.
+-- What the check leaves of `packed::read_front`; the argument stands in Invariants.antt. Assumes nothing.
 use mathlib.Core.Path.{◌≡◌, sym, ◌∙◌}
 use Prim.Native.Nat.{◌+◌, ◌*◌, ◌/◌, ◌%◌, ◌<◌}
 use native.Mathlib.Omega.{arith}

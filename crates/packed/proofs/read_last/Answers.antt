@@ -1,5 +1,4 @@
--- `packed::read_last` meets its contract. The invariant of its loop: words holds the words before the block and j of it, and its
--- own from there on. The measure is the block's length less j. Assumes nothing.
+-- What the check leaves of `packed::read_last`; the argument stands in Invariants.antt. Assumes nothing.
 use mathlib.Core.Path.{◌≡◌, sym, ◌∙◌}
 use Prim.Native.Nat.{◌+◌, ◌*◌, ◌<◌}
 use native.Mathlib.Omega.{arith}

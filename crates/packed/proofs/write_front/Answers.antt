@@ -1,6 +1,4 @@
--- `packed::write_front` meets its contract. The invariant of its loop: i is at most the number of words, and `file` holds the
--- first `3 + 2 i` octets of the words' file and its own from there on. The measure is the number of words less i.
--- Assumes nothing.
+-- What the check leaves of `packed::write_front`; the argument stands in Invariants.antt. Assumes nothing.
 use mathlib.Core.Path.{sym, ◌∙◌}
 use Prim.Native.Nat.{◌+◌, ◌*◌, ◌<◌}
 use native.Mathlib.Omega.{arith}

@@ -1,5 +1,4 @@
--- `suite::fill` meets its contract. The loop's invariant: the buffers keep their lengths, and what waits is the text so far behind
--- whatever was it at first (`Filling`). Each turn leaves one less (`turns`). Assumes nothing.
+-- What the check leaves of `suite::fill`; the argument stands in Invariants.antt. Assumes nothing.
 use mathlib.Core.Path.{refl}
 use borrow.Author.Tests.{not-true, not-false}
 use Rattle.suite.proofs.MoreLines.{true_not_false, count_few, sentence_more, filling_begins, filling_goes_on, filling_ends}

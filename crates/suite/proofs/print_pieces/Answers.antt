@@ -1,5 +1,4 @@
--- `suite::print_pieces` meets what the pieces require, writes each that was made, and ends. The loop's invariant: the pieces of
--- successive calls for the file lead to here (`Pieces`). Each turn leaves one less (`turns`). Assumes nothing.
+-- What the check leaves of `suite::print_pieces`; the argument stands in Invariants.antt. Assumes nothing.
 use mathlib.Core.List.{[]}
 use borrow.Author.Rules.{rules}
 use borrow.Author.Tests.{not-true}

@@ -5,5 +5,4 @@ use Rattle.suite.proofs.refused.Goals as goal
 
 pub returns : goal.returns
 returns c =
-    let start = c in
-    one_line start.requires _ _ (omega (arith, start.ranges.number)) (omega (arith, start.ranges.place)) c.refused.ensures
+    one_line c.requires _ _ (omega (arith, c.ranges.number)) (omega (arith, c.ranges.place)) c.refused.ensures

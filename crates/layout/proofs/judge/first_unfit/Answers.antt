@@ -1,5 +1,4 @@
--- `layout::judge::first_unfit` meets its contract. The loop's invariant: every word passed is below the limit.
--- Assumes nothing.
+-- What the check leaves of `layout::judge::first_unfit`; the argument stands in Invariants.antt. Assumes nothing.
 use Prim.Native.Nat.{ℕ, ◌≤◌, ◌<◌}
 use native.Mathlib.Omega.{arith}
 use borrow.Author.Rules.{rules}

@@ -1,6 +1,4 @@
--- `layout::judge::judge_rules` meets its contract. The loop's invariant: the number of all rules is that of those passed, at most
--- 256, and of those to come; and what places is to hold in the end is what it holds with those to come noted. The measure is how
--- many may still begin. Assumes nothing.
+-- What the check leaves of `layout::judge::judge_rules`; the argument stands in Invariants.antt. Assumes nothing.
 use mathlib.Core.Path.{◌≡◌, refl, ap, sym, ◌∙◌}
 use Prim.Native.Nat.{ℕ}
 use native.Mathlib.Omega.{arith}

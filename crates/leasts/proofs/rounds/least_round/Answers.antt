@@ -1,5 +1,4 @@
--- `leasts::rounds::least_round` meets its contract: the loop's invariant is `SoFar`. The measure is what is left of the
--- rules. Assumes nothing.
+-- What the check leaves of `leasts::rounds::least_round`; the argument stands in Invariants.antt. Assumes nothing.
 use native.Mathlib.Omega.{arith}
 use Rattle.leasts.proofs.RoundSoFar.{none_so_far, one_more, all_so_far}
 use borrow.Author.Rules.{rules}

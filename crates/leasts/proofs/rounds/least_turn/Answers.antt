@@ -1,5 +1,4 @@
--- `leasts::rounds::least_turn` meets its contract: the loop's invariant is `Followed`. The measure is the sum of the figures, which
--- falls with each rule but the last. Assumes nothing.
+-- What the check leaves of `leasts::rounds::least_turn`; the argument stands in Invariants.antt. Assumes nothing.
 use Prim.Native.Nat.{◌≤◌}
 use native.Mathlib.Omega.{arith}
 use lib.ListN.{length}

@@ -1,5 +1,4 @@
--- `leasts::rounds::more_rounds` meets its contract: after each round the leasts are `Rounded`. The measure is the sum of the
--- figures and how many fell in the last round: each round takes from the sum at least what it counts. Assumes nothing.
+-- What the check leaves of `leasts::rounds::more_rounds`; the argument stands in Invariants.antt. Assumes nothing.
 use mathlib.Core.Path.{◌≡◌}
 use Rattle.leasts.proofs.RoundSoFar.{rounded}
 use native.Mathlib.Omega.{arith}
@@ -8,9 +7,8 @@ use Rattle.leasts.proofs.rounds.more_rounds.Goals as goal
 
 pub loop-fell-preserved : goal.loop-fell-preserved
 loop-fell-preserved c =
-    let last = c in
-    let inv = last.loop-fell.invariant in
-    (search rules, λ g view so_far. rounded (last.least_round-fell.ensures.round g view) (inv.1 g view so_far).sound)
+    let inv = c.loop-fell.invariant in
+    (search rules, λ g view so_far. rounded (c.least_round-fell.ensures.round g view) (inv.1 g view so_far).sound)
 
 pub returns : goal.returns
 returns c g view so_far =

@@ -1,5 +1,4 @@
--- `leasts::sizes::rule_size` meets its contract: the loop's invariant is `Summed`. The measure is what is left of the length.
--- Assumes nothing.
+-- What the check leaves of `leasts::sizes::rule_size`; the argument stands in Invariants.antt. Assumes nothing.
 use lib.ListN.{get_or}
 use Rattle.leasts.specs.LeastSteps.{has_size, no_size}
 use Rattle.leasts.proofs.RuleSummed.{symbol_read, of_terminal, summed_none, summed_more, summed_all, lacks_size}

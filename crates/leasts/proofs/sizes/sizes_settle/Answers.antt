@@ -1,5 +1,4 @@
--- `leasts::sizes::sizes_settle` meets its contract: the rules that the loop has passed are quiet, and have their sizes. The
--- measure is the number of rules to come. Assumes nothing.
+-- What the check leaves of `leasts::sizes::sizes_settle`; the argument stands in Invariants.antt. Assumes nothing.
 use mathlib.Core.Path.{◌≡◌}
 use Prim.Native.Nat.{◌<◌}
 use Rattle.layout.proofs.RulesInside.{inside, left_within, nonterminals_within}

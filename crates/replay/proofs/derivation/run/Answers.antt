@@ -1,5 +1,4 @@
--- `replay::derivation::run` meets its contract: the loop's invariant is `Held`, with the bounds and the lengths of what is lent.
--- The measure is what is to be done at most: tokens passed make it no more, and a step makes it less. Assumes nothing.
+-- What the check leaves of `replay::derivation::run`; the argument stands in Invariants.antt. Assumes nothing.
 use mathlib.Core.Path.{refl}
 use Rattle.replay.proofs.ReplayRun.{held_start, kept_start, onward, held_passed, held_on, held_end, held_stop}
 use borrow.Author.Rules.{rules}

@@ -1,5 +1,4 @@
--- `replay::forms::put_words` meets its contract. The loop's invariant: the words up to an index are stored, as far as there is
--- room. The measure is what is left of them. Assumes nothing.
+-- What the check leaves of `replay::forms::put_words`; the argument stands in Invariants.antt. Assumes nothing.
 use Prim.Native.Nat.{ℕ, ◌-◌}
 use mathlib.Core.Path.{refl, ◌∙◌, ap}
 use mathlib.Core.List.{List}

@@ -1,5 +1,4 @@
--- `replay::forms::store_tokens` meets its contract. The loop's invariant: the words up to an index are tokens, and stored. The
--- measure is what is left of the right side. Assumes nothing.
+-- What the check leaves of `replay::forms::store_tokens`; the argument stands in Invariants.antt. Assumes nothing.
 use Prim.Native.Nat.{ℕ, ◌+◌, ◌-◌, ◌≤◌}
 use native.Mathlib.Omega.{arith}
 use mathlib.Core.Path.{refl, ◌∙◌, ap}

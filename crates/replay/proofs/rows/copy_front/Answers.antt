@@ -1,5 +1,4 @@
--- `replay::rows::copy_front` meets its contract. The loop's invariant: the first i words are copied, and the others kept. The
--- measure is what is left to copy. Assumes nothing.
+-- What the check leaves of `replay::rows::copy_front`; the argument stands in Invariants.antt. Assumes nothing.
 use Prim.Native.Nat.{ℕ}
 use native.Mathlib.Omega.{arith}
 use mathlib.Core.Path.{◌≡◌, sym, ◌∙◌, ap}

@@ -1,5 +1,4 @@
--- `table_test::passes::choices_pass` meets its contract: the choices of each nonterminal that the loop has passed are right. The
--- measure is what is left of the nonterminals. Assumes nothing.
+-- What the check leaves of `table_test::passes::choices_pass`; the argument stands in Invariants.antt. Assumes nothing.
 use native.Mathlib.Omega.{arith}
 use borrow.Author.Count.{below_more}
 use Rattle.table_test.proofs.Telling.{told}

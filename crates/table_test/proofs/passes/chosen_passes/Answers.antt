@@ -14,16 +14,14 @@ returns-then-rules-chosen c g view p = omega (arith, below_rules view p.rule, c.
 pub returns-then-read-a : goal.returns-then-read-a
 returns-then-read-a c g view p =
     let a = c.args in
-    let index = c in
-    let found = index_of a.places.now index.index.ensures index.wide.ensures in
+    let found = index_of a.places.now c.index.ensures c.wide.ensures in
     let read = c.read.ensures ∙ ap (λ (x : ℕ). get_or a.words.now x 0) found in
     c.if-read-a.true (read ∙ chosen_left view a.table.now a.a c.chosen-chosen.ensures p)
 
 pub returns : goal.returns
 returns c g view =
     let a = c.args in
-    let index = c in
-    let found = index_of a.places.now index.index.ensures index.wide.ensures in
+    let found = index_of a.places.now c.index.ensures c.wide.ensures in
     let read = c.read.ensures ∙ ap (λ (x : ℕ). get_or a.words.now x 0) found in
     let chosen = c.chosen-chosen.ensures in
     says_same c.comes_to.result

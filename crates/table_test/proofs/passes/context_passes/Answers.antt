@@ -14,8 +14,7 @@ pub returns-then-holds : goal.returns-then-holds
 returns-then-holds c g view =
     let a = c.args in
     let rule = c.rule-by.ensures in
-    let index = c in
-    let found = index_of a.places.now index.index.ensures index.wide.ensures in
+    let found = index_of a.places.now c.index.ensures c.wide.ensures in
     let symbols = c.right-symbols in
     let read = symbols.ensures.result_value ∙ ap (right_at a.words.now) found in
     let place = c.wide-2.ensures ∙ c.place.ensures in
@@ -29,8 +28,7 @@ pub returns : goal.returns
 returns c g view p =
     let a = c.args in
     let rule = c.rule-by.ensures in
-    let index = c in
-    let found = index_of a.places.now index.index.ensures index.wide.ensures in
+    let found = index_of a.places.now c.index.ensures c.wide.ensures in
     let symbols = c.right-symbols in
     let read = symbols.ensures.result_value ∙ ap (right_at a.words.now) found in
     let place = c.wide-2.ensures ∙ c.place.ensures in

@@ -1,5 +1,4 @@
--- `table_test::passes::rules_pass` meets its contract: each rule that the loop has passed is right. The measure is what is left of
--- the rules. Assumes nothing.
+-- What the check leaves of `table_test::passes::rules_pass`; the argument stands in Invariants.antt. Assumes nothing.
 use native.Mathlib.Omega.{arith}
 use borrow.Author.Count.{below_more}
 use Rattle.table_test.proofs.Telling.{told, refuted}
@@ -10,8 +9,7 @@ pub loop-r-preserved : goal.loop-r-preserved
 loop-r-preserved c =
     let a = c.args in
     let r = c.loop-r.r in
-    let index = c in
-    let at = index_of a.places.now index.index.ensures index.wide.ensures in
+    let at = index_of a.places.now c.index.ensures c.wide.ensures in
     let tested = c.rule_passes in (
       omega arith,
       below_more _ r c.loop-r.invariant.1 (λ g view.
@@ -25,8 +23,7 @@ pub returns-else-rule_passes : goal.returns-else-rule_passes
 returns-else-rule_passes c g view p =
     let a = c.args in
     let r = c.loop-r.r in
-    let index = c in
-    let at = index_of a.places.now index.index.ensures index.wide.ensures in
+    let at = index_of a.places.now c.index.ensures c.wide.ensures in
     let tested = c.rule_passes in
     refuted tested.result
     (rule_answered view a.table.now r _ c.total.ensures.0 (omega arith) tested.result

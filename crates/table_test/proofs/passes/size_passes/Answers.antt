@@ -1,5 +1,4 @@
--- `table_test::passes::size_passes` meets its contract: the loop's invariant is `Summed`. The measure is what is left of the
--- length. Assumes nothing.
+-- What the check leaves of `table_test::passes::size_passes`; the argument stands in Invariants.antt. Assumes nothing.
 use native.Mathlib.Omega.{arith}
 use Rattle.table_test.proofs.Telling.{told, refuted}
 use Rattle.table_test.proofs.PlacesSummed.{summed_nonterminal, summed_terminal, summed_all, place_fails}

@@ -1,5 +1,4 @@
--- `tables::choices::choose_leads` meets its contract: of the places of the rules that the loop has passed the first that fit
--- stand, whatever the grammar. The measure is the number of rules to come. Assumes nothing.
+-- What the check leaves of `tables::choices::choose_leads`; the argument stands in Invariants.antt. Assumes nothing.
 use mathlib.Core.Path.{◌≡◌, refl, ap, ◌∙◌}
 use native.Mathlib.Omega.{arith}
 use Rattle.layout.specs.Rules.{right_at}

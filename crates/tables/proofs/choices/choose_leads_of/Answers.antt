@@ -1,5 +1,4 @@
--- `tables::choices::choose_leads_of` meets its contract: of the places that the loop has passed the first that fit stand,
--- whatever the grammar. The measure is what is left of the symbols. Assumes nothing.
+-- What the check leaves of `tables::choices::choose_leads_of`; the argument stands in Invariants.antt. Assumes nothing.
 use mathlib.Core.Path.{refl, ◌∙◌}
 use native.Mathlib.Nat.{add-zero}
 use native.Mathlib.Omega.{arith}

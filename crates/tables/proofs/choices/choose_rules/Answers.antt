@@ -1,5 +1,4 @@
--- `tables::choices::choose_rules` meets its contract: of the rules that the loop has passed the first that fit stand, whatever
--- the grammar. The measure is the number of rules to come. Assumes nothing.
+-- What the check leaves of `tables::choices::choose_rules`; the argument stands in Invariants.antt. Assumes nothing.
 use Prim.Native.Nat.{ℕ}
 use mathlib.Core.Path.{◌≡◌, refl, ap, ◌∙◌}
 use native.Mathlib.Omega.{arith}

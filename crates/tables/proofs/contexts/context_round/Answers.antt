@@ -1,5 +1,4 @@
--- `tables::contexts::context_round` meets its contract: the loop's invariant is `SeenSoFar`. The measure is what is left of
--- the rules. Assumes nothing.
+-- What the check leaves of `tables::contexts::context_round`; the argument stands in Invariants.antt. Assumes nothing.
 use Prim.Native.Nat.{◌≤◌}
 use native.Mathlib.Omega.{arith}
 use lib.ListN.{length}

@@ -1,5 +1,4 @@
--- `tables::contexts::context_rounds` meets its contract: the loop's invariant is `SeenRounds`. The measure is the sum of the
--- figures and how many fell in the last round: each round takes from the sum at least what it counts. Assumes nothing.
+-- What the check leaves of `tables::contexts::context_rounds`; the argument stands in Invariants.antt. Assumes nothing.
 use mathlib.Core.Path.{refl, ◌∙◌}
 use native.Mathlib.Omega.{arith}
 use Rattle.tables.proofs.SeenRounds.{rounds_none, rounds_more, outset}

@@ -1,5 +1,4 @@
--- `tables::contexts::context_turn` meets its contract: the loop's invariant is `ContextsFollowed`. The measure is the sum of the
--- figures, which falls with each rule but the last. Assumes nothing.
+-- What the check leaves of `tables::contexts::context_turn`; the argument stands in Invariants.antt. Assumes nothing.
 use Prim.Native.Nat.{◌≤◌, ◌<◌}
 use mathlib.Core.Path.{refl}
 use native.Mathlib.Omega.{arith}

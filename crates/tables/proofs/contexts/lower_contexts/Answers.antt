@@ -1,6 +1,4 @@
--- `tables::contexts::lower_contexts` meets its contract. The loop's invariant: what the symbols from i on do, after what those
--- below i did, is what all do; and no symbol lowers more than one figure. The measure is what is left of the symbols. Assumes
--- nothing.
+-- What the check leaves of `tables::contexts::lower_contexts`; the argument stands in Invariants.antt. Assumes nothing.
 use mathlib.Core.Path.{◌≡◌, refl}
 use mathlib.Core.List.{List, []}
 use Prim.Native.Nat.{ℕ, ◌+◌, ◌<◌}

@@ -1,5 +1,4 @@
--- `tables::contexts::rule_totals` meets its contract: the totals below r stand. The measure is what is left of the rules.
--- Assumes nothing.
+-- What the check leaves of `tables::contexts::rule_totals`; the argument stands in Invariants.antt. Assumes nothing.
 use mathlib.Core.Path.{◌≡◌, refl, ap, ◌∙◌}
 use Prim.Native.Nat.{ℕ}
 use native.Mathlib.Omega.{arith}

@@ -1,5 +1,4 @@
--- `tables::fill::fill_entries` meets its contract: the entries of the nonterminals that the loop has passed stand in the table. The
--- measure is the number of those to come. Assumes nothing.
+-- What the check leaves of `tables::fill::fill_entries`; the argument stands in Invariants.antt. Assumes nothing.
 use Prim.Native.Nat.{ℕ}
 use mathlib.Core.Path.{◌≡◌, refl, ap, ◌∙◌}
 use native.Mathlib.Omega.{arith}

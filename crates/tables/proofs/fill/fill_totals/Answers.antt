@@ -1,5 +1,4 @@
--- `tables::fill::fill_totals` meets its contract: the totals of the rules that the loop has passed stand in the table. The measure
--- is the number of those to come. Assumes nothing.
+-- What the check leaves of `tables::fill::fill_totals`; the argument stands in Invariants.antt. Assumes nothing.
 use Prim.Native.Nat.{ℕ}
 use mathlib.Core.Path.{◌≡◌, refl, ap, ◌∙◌}
 use lib.ListN.{get_or}
