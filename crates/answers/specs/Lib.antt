@@ -1,3 +1,4 @@
 pub mod GrammarRefusals
+pub mod Refusals
 pub mod Buffers
 pub mod Lists

@@ -1,4 +1,6 @@
 // The four numbers of an answer: a function for each kind of answer, and one for each family. What they are is specs/Numbers.
+// Document 01 names an enum for each family, and so there is a `match` for each.
+// A length is made a u64 by `as`: there is no From<usize> for u64.
 ghost use Rattle.std.specs.Prelude.{◌≡◌};
 ghost use Rattle.calls.specs.Numbers.{done, next, finished, refused, of_file, of_table, of_next, of_replay};
 
@@ -7,37 +9,42 @@ use packed::FileAnswer;
 use replay::ReplayAnswer;
 use tables::TableAnswer;
 
-// The kinds of answer.
-const DONE: u64 = 0;
-
-const NEXT: u64 = 1;
-
-const FINISHED: u64 = 2;
-
-const REFUSED: u64 = 3;
+// The kinds of answer, in the order of their numbers in include/vanchiluk.h.
+#[derive(Clone, Copy, Debug, PartialEq, Eq)]
+enum Kind {
+    Done,
+    Next,
+    Finished,
+    Refused,
+}
 
 fn done(length: usize) -> [u64; 4]
     ensures { result ≡ done length }
 {
-    [DONE, length as u64, 0, 0]
+    [Kind::Done as u64, length as u64, 0, 0]
 }
 
 fn next(target: usize, tokens: usize, rules: usize) -> [u64; 4]
     ensures { result ≡ next target tokens rules }
 {
-    [NEXT, target as u64, tokens as u64, rules as u64]
+    [
+        Kind::Next as u64,
+        target as u64,
+        tokens as u64,
+        rules as u64,
+    ]
 }
 
 fn finished() -> [u64; 4]
     ensures { result ≡ finished }
 {
-    [FINISHED, 0, 0, 0]
+    [Kind::Finished as u64, 0, 0, 0]
 }
 
 fn refused(number: u16, place: usize) -> [u64; 4]
     ensures { result ≡ refused number place }
 {
-    [REFUSED, number as u64, place as u64, 0]
+    [Kind::Refused as u64, u64::from(number), place as u64, 0]
 }
 
 pub fn of_file(answer: FileAnswer) -> [u64; 4]

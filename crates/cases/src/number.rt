@@ -6,103 +6,100 @@
 //     N<B   each is the number that stands B before it
 ghost use Rattle.std.specs.Prelude.{◌≤◌, length};
 
+use crate::buffers::front_mut;
+
 // The most numbers that a part of a case spells.
 pub const MOST_SPELLED: usize = 65538;
 
-// What has been read of a form: N, its sign, and the number after it. A number alone is a form too, 1*W. The sign is 0
-// where nothing has been read.
+// Which numbers a form spells.
+#[derive(Clone, Copy)]
+enum Sign {
+    Times,
+    Plus,
+    Octets,
+    Before,
+}
+
+impl Sign {
+    // The sign that an octet is; none where it is no sign.
+    fn of(octet: u8) -> Option<Self> {
+        match octet {
+            b'*' => Some(Self::Times),
+            b'+' => Some(Self::Plus),
+            b'&' => Some(Self::Octets),
+            b'<' => Some(Self::Before),
+            _ => None,
+        }
+    }
+}
+
+// What has been read of a form: N, its sign, and the number after it. A number alone is a form too, 1*W.
 #[derive(Clone, Copy)]
 struct Form {
     many: usize,
-    sign: u8,
+    sign: Sign,
     number: usize,
 }
 
 impl Form {
-    fn nothing() -> Self {
+    // A form of which only its sign has been read.
+    fn begun(many: usize, sign: Sign) -> Self {
         Self {
-            many: 0,
-            sign: 0,
+            many,
+            sign,
             number: 0,
         }
     }
 
-    // What an octet leaves to be read on: the form with a digit or a sign more, and nothing after any other octet.
-    fn with(self, octet: u8) -> Self {
-        if is_sign(octet) {
-            return Self {
-                many: self.number,
-                sign: octet,
-                number: 0,
-            };
-        }
-        if !is_digit(octet) {
-            return Self::nothing();
-        }
-        // a digit's low four bits are its number
-        let number = self.number % 100000 * 10 + (octet % 16) as usize;
-        if self.sign == 0 {
-            return Self {
-                many: 1,
-                sign: b'*',
-                number,
-            };
-        }
+    // The form with a digit more.
+    fn with_digit(self, digit: u8) -> Self {
         Self {
-            many: self.many,
-            sign: self.sign,
-            number,
+            number: self.number % 100000 * 10 + usize::from(digit),
+            ..self
         }
-    }
-
-    // What an octet ends: the form, unless it is a digit or a sign.
-    fn ended_by(self, octet: u8) -> Self {
-        if is_sign(octet) || is_digit(octet) {
-            return Self::nothing();
-        }
-        self
     }
 
     // Its i-th number, counted from 0; earlier is the number that stands B before.
     fn spelled(self, i: usize, earlier: u16) -> u16 {
-        let sign = self.sign;
-        match sign {
-            b'+' => counted(self.number, i),
-            b'&' => octet(counted(self.number, i / 2), i % 2),
-            b'<' => earlier,
-            _ => counted(self.number, 0),
+        match self.sign {
+            Sign::Times => counted(self.number, 0),
+            Sign::Plus => counted(self.number, i),
+            Sign::Octets => octet(counted(self.number, i / 2), i % 2),
+            Sign::Before => earlier,
         }
     }
 }
 
-fn is_sign(octet: u8) -> bool {
-    match octet {
-        b'*' | b'+' | b'&' | b'<' => true,
-        _ => false,
+// What has been read with an octet more: the form with a digit or a sign, and nothing where any other octet ends it.
+fn read_on(read: Option<Form>, octet: u8) -> Option<Form> {
+    if let Some(sign) = Sign::of(octet) {
+        let many = read.map_or(0, |form| form.number);
+        return Some(Form::begun(many, sign));
     }
-}
-
-fn is_digit(octet: u8) -> bool {
-    b'0' <= octet && octet <= b'9'
+    if !octet.is_ascii_digit() {
+        return None;
+    }
+    let form = read.unwrap_or(Form::begun(1, Sign::Times));
+    Some(form.with_digit(octet - b'0'))
 }
 
 // The word that stands i after a number.
 fn counted(number: usize, i: usize) -> u16 {
-    (std::num::wrapping_add_usize(number, i) % 65536) as u16
+    (number.wrapping_add(i) % 65536) as u16
 }
 
 // A word's high octet, and its low one.
 fn octet(word: u16, i: usize) -> u16 {
-    if i == 0 { word / 256 } else { word % 256 }
+    let [high, low] = word.to_be_bytes();
+    u16::from(if i == 0 { high } else { low })
 }
 
-// The number that stands some way before an index.
+// The number that stands some way before an index; 0 where none does.
 fn earlier(numbers: &[u16], at: usize, back: usize) -> u16 {
-    if at < back {
+    let Some(i) = at.checked_sub(back) else {
         return 0;
-    }
-    let i = at - back;
-    if i < numbers.len() { numbers[i] } else { 0 }
+    };
+    numbers.get(i).copied().unwrap_or(0)
 }
 
 // Writes a form's numbers into out from an index on, as many as there is room for. The answer is the index past them.
@@ -110,75 +107,46 @@ fn write(form: Form, out: &mut [u16], from: usize) -> usize
     requires { from ≤ length out.old }
     ensures { result ≤ length out.new }
 {
-    let end = from + least(form.many, out.len() - from);
-    let mut at = from;
-    while at < end {
-        put(form, out, at, at - from);
-        at += 1;
+    let end = from + form.many.min(out.len() - from);
+    for at in from..end {
+        out[at] = form.spelled(at - from, earlier(out, at, form.number));
     }
     end
 }
 
-// Writes a form's i-th number to an index.
-fn put(form: Form, out: &mut [u16], at: usize, i: usize) {
-    let number = form.spelled(i, earlier(out, at, form.number));
-    if at < out.len() {
-        out[at] = number;
-    }
-}
-
-pub fn least(a: usize, b: usize) -> usize
-    ensures { result ≤ b }
+// Writes the numbers that a text spells into the front of out, as many as there is room for. The answer is that front.
+pub fn numbers<'a>(text: &[u8], out: &'a mut [u16]) -> &'a [u16]
+    ensures { length result.now ≤ length out.old }
 {
-    if a < b { a } else { b }
-}
-
-// Writes the numbers that a text spells into the front of out, as many as there is room for. The answer is how many.
-pub fn numbers(text: &[u8], out: &mut [u16]) -> usize
-    ensures { result ≤ length out.new }
-{
-    let mut form = Form::nothing();
+    let mut read = None;
     let mut count = 0;
-    let mut i = 0;
-    while i < text.len() {
-        let octet = text[i];
-        count = write(form.ended_by(octet), out, count);
-        form = form.with(octet);
-        i += 1;
+    for octet in text {
+        let more = read_on(read, *octet);
+        if let (Some(form), None) = (read, more) {
+            count = write(form, out, count);
+        }
+        read = more;
     }
-    write(form, out, count)
+    if let Some(form) = read {
+        count = write(form, out, count);
+    }
+    &out[..count]
 }
 
-// Writes the numbers that a text spells, each below 256, into the front of out, as many as there is room for. The answer is how
-// many numbers there are.
-pub fn octets(text: &[u8], out: &mut [u8]) -> usize {
+// Writes the numbers that a text spells, each below 256, into the front of out, as many as there is room for. The answer is the
+// front that was written.
+pub fn octets<'a>(text: &[u8], out: &'a mut [u8]) -> &'a mut [u8] {
     let mut words = [0; MOST_SPELLED];
-    let count = numbers(text, &mut words);
-    write_octets(&words[0..count], out);
-    count
-}
-
-fn write_octets(words: &[u16], out: &mut [u8]) {
-    let mut i = 0;
-    while i < words.len() && i < out.len() {
-        out[i] = low(words[i]);
-        i += 1;
+    let spelled = numbers(text, &mut words);
+    for (octet, number) in out.iter_mut().zip(spelled) {
+        *octet = (*number % 256) as u8;
     }
-}
-
-fn low(word: u16) -> u8 {
-    (word % 256) as u8
+    front_mut(out, spelled.len())
 }
 
 // The first number that a text spells, and 0 where it spells none.
 pub fn first(text: &[u8]) -> usize {
     let mut one = [0; 1];
     numbers(text, &mut one);
-    wide(one[0])
-}
-
-pub fn wide(word: u16) -> usize
-    ensures { result ≤ 65535 }
-{
-    word as usize
+    usize::from(one[0])
 }

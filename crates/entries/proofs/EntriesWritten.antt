@@ -69,8 +69,8 @@ module _ (n rules : ℕ) (F : Figures measure) where
       store_word {i} h next is so_far =
           rw (next, ← is, so_far) (store_next (table_of n rules F) before i (omega (arith, table_long)) (omega arith))
 
-      pub enter_next : (A : ℕ) {xs ys : List ℕ} → A < n → xs ≡ entered_to n rules F before A → ys ≡ with_entries xs A (entries_of F A) →
-          ys ≡ entered_to n rules F before (A + 1)
+      pub enter_next : (A : ℕ) {xs ys : List ℕ} → A < n → xs ≡ entered_to n rules F before A →
+          ys ≡ with_entries xs A (entries_of F A) → ys ≡ entered_to n rules F before (A + 1)
       unfolding entered_to
       enter_next A h so_far stored =
           let e : 5 * A + 0 ≡ 5 * A = omega arith in

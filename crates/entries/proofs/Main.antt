@@ -11,7 +11,8 @@ use Rattle.grammar.specs.Terms.{measure, limit}
 use Rattle.grammar.specs.Refusals.{AllTrees, AllReached, AllFit, Accepted}
 use Rattle.grammar.specs.Certificates.{Leasts, Contexts}
 use Rattle.grammar.specs.Samples.{D, empty_rule, D_table, loop}
-use Rattle.entries.specs.Table.{table_length, least_in, chosen_in, context_in, rule_in, place_in, total_in, most_table, IsTable, HasTable}
+use Rattle.entries.specs.Table.{table_length, most_table, IsTable, HasTable}
+use Rattle.entries.specs.Table.{least_in, chosen_in, context_in, rule_in, place_in, total_in}
 use Rattle.entries.specs.TableCertificates.{Passes, passes?, WorkedOut}
 use Rattle.entries.specs.Writing.{with_entries, with_total}
 use Rattle.entries.specs.declared.Entries.{Entries}

@@ -1,14 +1,15 @@
 -- The promises of this crate can be met, for any numbers, and any words of 16 bits. Assumes nothing.
-use Prim.Native.Nat.{ℕ, zero, suc, ◌+◌, ◌≤◌, ◌<◌}
+use Prim.Native.Nat.{ℕ, zero, suc, ◌+◌, ◌<◌}
 use native.Mathlib.Omega.{arith}
-use native.Mathlib.Decide.{dec_lt, ℕ_discrete}
+use native.Mathlib.Decide.{dec_lt}
+use native.Mathlib.Numerals.{add-one}
+use borrow.Author.Count.{below_more}
 use mathlib.Core.Bool.{Bool, true, false}
 use mathlib.Core.Path.{◌≡◌, refl}
 use mathlib.Core.List.{List}
 use lib.ListN.{length, set}
+use Rattle.std.specs.Prelude.{Option, Some, None}
 use Rattle.figures.specs.Figures.{figure, Lowered, fell, stayed, FirstAbove, found_at, found_none, turn}
-use Rattle.figures.specs.declared.Found.{Found}
-use Rattle.figures.specs.declared.Found.TheVariants.{At, Nothing}
 
 pub lower_met : (before : List ℕ) (a to : ℕ) → (after : List ℕ) × (r : ℕ) × Lowered before a to after r
 lower_met before a to = go (dec_lt a (length before)) (dec_lt to (figure before a))
@@ -18,31 +19,22 @@ lower_met before a to = go (dec_lt a (length before)) (dec_lt to (figure before 
     go (yes h) (no l) = (before, 0, stayed (λ k. omega arith))
     go (no h) l = (before, 0, stayed (λ k. absurd (h k)))
 
--- a place is looked at, and those after it where its word is not above
-module _ (xs : List ℕ) (n most : ℕ) where
-  abbrev Search : Type 0
-  Search = (r : Found) × FirstAbove xs n most r
+-- the search among the places below n, and place n behind them
+module _ (xs : List ℕ) (most : ℕ) where
+  abbrev Search : ℕ → Type 0
+  Search n = (r : Option ℕ) × FirstAbove xs n most r
 
-  abbrev LowBelow : ℕ → Type 0
-  LowBelow a = (b : ℕ) → b < a → figure xs b ≤ most
-
-  one_looked_at : (a : ℕ) → a < n → LowBelow a → (LowBelow (suc a) → Search) → Search
-  one_looked_at a l low others = go (dec_lt most (figure xs a))
+  one_more : (n : ℕ) → Search n → Search (n + 1)
+  one_more n (_, found_at l above low) = (Some _, found_at (omega arith) above low)
+  one_more n (_, found_none low) = go (dec_lt most (figure xs n))
     where
-      next : figure xs a ≤ most → (b : ℕ) → Dec (b ≡ a) → b < suc a → figure xs b ≤ most
-      next h b (yes e) k = rw e h
-      next h b (no d) k = low b (omega arith)
+      go : Dec (most < figure xs n) → Search (n + 1)
+      go (yes above) = (Some n, found_at (omega arith) above low)
+      go (no h) = (None, found_none (below_more _ n low (omega arith)))
 
-      go : Dec (most < figure xs a) → Search
-      go (yes above) = (At a, found_at l above low)
-      go (no h) = others (λ b. next (omega arith) b (ℕ_discrete b a))
-
-  search_from : (left a : ℕ) → a + left ≡ n → LowBelow a → Search
-  search_from zero a e low = (Nothing, found_none (λ b h. low b (omega arith)))
-  search_from (suc left) a e low = one_looked_at a (omega arith) low (λ more. search_from left (suc a) (omega arith) more)
-
-  pub first_above_met : Search
-  first_above_met = search_from n 0 (omega arith) (λ b h. absurd (omega arith))
+pub first_above_met : (xs : List ℕ) (n most : ℕ) → (r : Option ℕ) × FirstAbove xs n most r
+first_above_met xs zero most = (None, found_none (λ b h. absurd (omega arith)))
+first_above_met xs (suc n) most = rw (← add-one) (one_more xs most n (first_above_met xs n most))
 
 pub in_turn_met : (i rules : ℕ) (up : Bool) → (r : ℕ) × (r ≡ turn up rules i) × (i < rules → r < rules)
 in_turn_met i rules true = (i, refl, λ h. h)

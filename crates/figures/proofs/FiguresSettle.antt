@@ -5,9 +5,8 @@ use native.Mathlib.Decide.{dec_lt}
 use mathlib.Core.Bool.{Bool}
 use mathlib.Core.Path.{◌≡◌, refl, sym, ◌∙◌}
 use mathlib.Core.List.{List}
+use Rattle.std.specs.Prelude.{Option, Some}
 use Rattle.figures.specs.Figures.{figure, capped, Lowered, fell, stayed, FirstAbove, found_at, found_none, turn}
-use Rattle.figures.specs.declared.Found.{Found}
-use Rattle.figures.specs.declared.Found.TheVariants.{At}
 
 pub figure_at_settles : (xs : List ℕ) (a : ℕ) {r s : ℕ} → (r ≡ figure xs a) × (r ≤ 65535) → (s ≡ figure xs a) × (s ≤ 65535) → r ≡ s
 figure_at_settles xs a p q = p.0 ∙ sym q.0
@@ -24,10 +23,10 @@ lower_settles (stayed k) (fell h l) = absurd (omega (arith, k h))
 lower_settles (stayed k) (stayed k') = (refl, refl)
 
 -- neither of two lowest places is below the other
-pub first_above_settles : (xs : List ℕ) (n most : ℕ) {a b : Found} → FirstAbove xs n most a → FirstAbove xs n most b → a ≡ b
+pub first_above_settles : (xs : List ℕ) (n most : ℕ) {a b : Option ℕ} → FirstAbove xs n most a → FirstAbove xs n most b → a ≡ b
 first_above_settles xs n most (found_at {a} l z below) (found_at {a = b} m y under) = same (dec_lt a b) (dec_lt b a)
   where
-    same : Dec (a < b) → Dec (b < a) → At a ≡ At b
+    same : Dec (a < b) → Dec (b < a) → Some a ≡ Some b
     same (yes lt) e = absurd (omega (arith, under a lt))
     same (no ge) (yes lt) = absurd (omega (arith, below b lt))
     same (no ge) (no le) = let e : a ≡ b = omega arith in rw e refl

@@ -4,8 +4,8 @@ use Prim.Native.Nat.{ℕ, ◌≤◌, ◌<◌}
 use mathlib.Core.Bool.{Bool}
 use mathlib.Core.Path.{◌≡◌}
 use mathlib.Core.List.{List}
+use Rattle.std.specs.Prelude.{Option}
 use Rattle.figures.specs.Figures.{figure, capped, Lowered, FirstAbove, turn}
-use Rattle.figures.specs.declared.Found.{Found}
 use Rattle.figures.proofs.FiguresSettle as FiguresSettle
 use Rattle.figures.proofs.FiguresMet as FiguresMet
 
@@ -25,10 +25,10 @@ pub lower_met : (before : List ℕ) (a to : ℕ) → (after : List ℕ) × (r : 
 lower_met = FiguresMet.lower_met
 
 -- FIRST ABOVE
-pub first_above_settles : (xs : List ℕ) (n most : ℕ) {a b : Found} → FirstAbove xs n most a → FirstAbove xs n most b → a ≡ b
+pub first_above_settles : (xs : List ℕ) (n most : ℕ) {a b : Option ℕ} → FirstAbove xs n most a → FirstAbove xs n most b → a ≡ b
 first_above_settles = FiguresSettle.first_above_settles
 
-pub first_above_met : (xs : List ℕ) (n most : ℕ) → (r : Found) × FirstAbove xs n most r
+pub first_above_met : (xs : List ℕ) (n most : ℕ) → (r : Option ℕ) × FirstAbove xs n most r
 first_above_met = FiguresMet.first_above_met
 
 -- IN TURN

@@ -1,10 +1,8 @@
 -- What the calls of this crate promise, for any words and any numbers. A figure is a word of an array, one for each nonterminal:
--- the least or the context found so far, cut at document 01's limit and one more, or `no_figure` where none is found yet. That is no
--- figure, and no cut makes one of it. Past the end of the array there is none either. Assumes nothing.
-use Rattle.std.specs.Prelude.{ℕ, ◌-◌, ◌≤◌, ◌<◌, min, ◌≡◌, Bool, true, false, List, length, get_or, set}
+-- the least or the context found so far, cut at document 01's limit and one more, or `no_figure` where none is found yet. That is
+-- no figure, and no cut makes one of it. Past the end of the array there is none either. Assumes nothing.
+use Rattle.std.specs.Prelude.{ℕ, ◌-◌, ◌≤◌, ◌<◌, min, ◌≡◌, Bool, true, false, Option, Some, None, List, length, get_or, set}
 use Rattle.grammar.specs.Caps.{ceiling}
-use Rattle.figures.specs.declared.Found.{Found}
-use Rattle.figures.specs.declared.Found.TheVariants.{At, Nothing}
 
 -- stands where there is no figure
 abbrev pub no_figure : ℕ
@@ -25,9 +23,9 @@ pub data Lowered (before : List ℕ) (a to : ℕ) : List ℕ → ℕ → Type 0 
   stayed : (a < length before → figure before a ≤ to) → Lowered before a to before 0
 
 -- the lowest place below n whose word is above most, or nothing where there is none
-pub data FirstAbove (xs : List ℕ) (n most : ℕ) : Found → Type 0 where
-  found_at : {a : ℕ} → a < n → most < figure xs a → ((b : ℕ) → b < a → figure xs b ≤ most) → FirstAbove xs n most (At a)
-  found_none : ((b : ℕ) → b < n → figure xs b ≤ most) → FirstAbove xs n most Nothing
+pub data FirstAbove (xs : List ℕ) (n most : ℕ) : Option ℕ → Type 0 where
+  found_at : {a : ℕ} → a < n → most < figure xs a → ((b : ℕ) → b < a → figure xs b ≤ most) → FirstAbove xs n most (Some a)
+  found_none : ((b : ℕ) → b < n → figure xs b ≤ most) → FirstAbove xs n most None
 
 -- the rule that a round visits in its turn i, from the first to the last or back
 abbrev pub turn : Bool → ℕ → ℕ → ℕ

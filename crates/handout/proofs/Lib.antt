@@ -4,14 +4,15 @@ pub mod NextSettles
 pub mod NextMet
 pub mod NextExact
 pub mod NextDead
+-- What a grammar with its table says.
+pub mod OwnTable
 -- What the lister writes.
 pub mod Listings
-pub mod ListerSteps
-pub mod ListerWrites
--- What the table says of sizes.
 pub mod SizesByTable
+pub mod ListerSteps
 -- What the tree lister writes.
 pub mod OpenListings
+pub mod ContextRules
 pub mod BesideSteps
 pub mod TreeListerSteps
 pub mod FewContexts

@@ -11,22 +11,22 @@ use Rattle.grammar.specs.Words.{Grammar}
 use Rattle.grammar.specs.Tree.{Forest, nil, leaf, child, sentence, sentences, derivation, derivations}
 use Rattle.grammar.specs.Terms.{measure}
 use Rattle.grammar.specs.Least.{ChosenForest}
-use Rattle.handout.specs.declared.lister.Lengths.{Lengths}
-use Rattle.handout.specs.Listing.{size_by, sizes_by, SymbolListing, of_terminal, of_nonterminal, SymbolsListing}
-use Rattle.handout.specs.Listing.{Wrote}
+use Rattle.handout.specs.declared.tabled.Tabled.{Tabled}
+use Rattle.handout.specs.declared.listing.Listing.{Listing}
+use Rattle.handout.specs.Listing.{size_by, sizes_by, SymbolListing, of_terminal, of_nonterminal, SymbolsListing, Wrote}
 
 -- one after the other
-module _ {us vs us' vs' a b c x y z : List ℕ} {p q r : Lengths} where
-  pub and_then : Wrote us vs a b x y p q → Wrote us' vs' b c y z q r → Wrote (us ++ us') (vs ++ vs') a c x z p r
+module _ {us vs us' vs' : List ℕ} {p q r : Listing} where
+  pub and_then : Wrote us vs p q → Wrote us' vs' q r → Wrote (us ++ us') (vs ++ vs') p r
   and_then h k = record {
     more_tokens = omega (arith, h.more_tokens, k.more_tokens, length-append us us');
     more_rules = omega (arith, h.more_rules, k.more_rules, length-append vs vs');
-    sentence = k.sentence ∙ rw (h.sentence, h.more_tokens) (sym (sets_append us us' a p.tokens));
-    derivation = k.derivation ∙ rw (h.derivation, h.more_rules) (sym (sets_append vs vs' x p.rules));
+    sentence = k.sentence ∙ rw (h.sentence, h.more_tokens) (sym (sets_append us us' p.sentence.now p.tokens));
+    derivation = k.derivation ∙ rw (h.derivation, h.more_rules) (sym (sets_append vs vs' p.derivation.now p.rules));
   }
 
-pub nothing : (a x : List ℕ) (p : Lengths) → Wrote [] [] a a x x p p
-nothing a x p = record { more_tokens = omega arith; more_rules = omega arith; sentence = refl; derivation = refl }
+pub nothing : (p : Listing) → Wrote [] [] p p
+nothing p = record { more_tokens = omega arith; more_rules = omega arith; sentence = refl; derivation = refl }
 
 -- the symbols of w listed, and then one more
 module _ {g : Grammar} where
@@ -52,21 +52,20 @@ module _ {g : Grammar} where
       }
 
 -- the sizes of symbols
-module _ (n : ℕ) (table : List ℕ) where
-  pub sizes_append : (u v : List ℕ) → sizes_by n table (u ++ v) ≡ sizes_by n table u + sizes_by n table v
+module _ (t : Tabled) where
+  pub sizes_append : (u v : List ℕ) → sizes_by t (u ++ v) ≡ sizes_by t u + sizes_by t v
   unfolding sizes_by
   sizes_append [] v = omega arith
   sizes_append (s ∷ u) v = omega (arith, sizes_append u v)
 
   -- one symbol more
   pub sizes_more : (w : List ℕ) (i : ℕ) → i < length w →
-      sizes_by n table (take (i + 1) w) ≡ sizes_by n table (take i w) + size_by n table (get_or w i 0)
+      sizes_by t (take (i + 1) w) ≡ sizes_by t (take i w) + size_by t (get_or w i 0)
   unfolding sizes_by
   sizes_more w i h = rw (add-one i, take-suc w i 0 h) (omega (arith, sizes_append (take i w) (get_or w i 0 ∷ [])))
 
   -- and it is among them all
-  pub sizes_within : (w : List ℕ) (i : ℕ) → i < length w →
-      sizes_by n table (take i w) + size_by n table (get_or w i 0) ≤ sizes_by n table w
+  pub sizes_within : (w : List ℕ) (i : ℕ) → i < length w → sizes_by t (take i w) + size_by t (get_or w i 0) ≤ sizes_by t w
   sizes_within w i h =
-      let whole = ap (sizes_by n table) (take-append-drop (i + 1) w) in
+      let whole = ap (sizes_by t) (take-append-drop (i + 1) w) in
       omega (arith, whole, sizes_append (take (i + 1) w) (drop (i + 1) w), sizes_more w i h)

@@ -1,247 +1,182 @@
 -- The outcomes of `next`, each a row of document 01: what the functions on the way promise each other, put together.
 -- Assumes nothing.
 use Prim.Native.Nat.{ℕ, ◌≤◌, ◌<◌}
+use native.Mathlib.Nat.{zero-add}
 use native.Mathlib.Omega.{arith}
-use mathlib.Core.Path.{◌≡◌, refl, ap, ◌∙◌}
+use mathlib.Core.Path.{◌≡◌, ap, sym, ◌∙◌}
 use mathlib.Core.List.{List}
 use lib.ListN.{length, take}
+use lib.Seq.{sets, sets-eq}
+use Rattle.std.specs.Prelude.{Some, None}
+use Rattle.std.specs.Borrow.{Bor}
 use Rattle.answers.specs.GrammarRefusals.{GrammarRefusal, number, place, broken_layout, no_tree, unreached, oversize}
 use Rattle.answers.specs.Buffers.{over}
+use Rattle.answers.specs.Refusals.{number_of, place_of}
+use Rattle.answers.specs.declared.Refusal.{Refusal}
+use Rattle.answers.specs.declared.Refusal.TheVariants as refusal
 use Rattle.answers.proofs.WrittenFromFront.{written}
-use Rattle.grammar.specs.Words.{layout, Are}
+use Rattle.grammar.specs.Words.{Grammar}
 use Rattle.grammar.specs.Tree.{Tree, sentence, derivation}
-use Rattle.grammar.specs.Terms.{measure}
-use Rattle.grammar.specs.Least.{TreeOf}
-use Rattle.grammar.proofs.LayoutExact.{in_bounds}
-use Rattle.grammar.proofs.TreeOfExists.{tree_of_exists}
-use Rattle.layout.specs.Judge.{places_of}
-use Rattle.layout.proofs.WordsRead.{places_of_lem}
-use Rattle.entries.specs.Table.{total_in, Own}
-use Rattle.table_test.specs.Promise.{Tested, its, not_its, places_with, TestPromise}
-use Rattle.table_test.specs.declared.TableTest.{TableTest}
-use Rattle.table_test.specs.declared.TableTest.TheVariants as test
-use Rattle.table_test.specs.declared.Testing.{Testing}
+use Rattle.layout.proofs.WordsRead.{view_few}
+use Rattle.table_test.specs.Promise.{Tested, not_its}
 use Rattle.tables.specs.Promise as tables
 use Rattle.tables.specs.declared.TableAnswer.{TableAnswer}
 use Rattle.tables.specs.declared.TableAnswer.TheVariants as table-answer
 use Rattle.marks.specs.Marks.{FirstUnused}
-use Rattle.marks.specs.declared.LowestUnused.{LowestUnused}
-use Rattle.marks.specs.declared.LowestUnused.TheVariants.{At, None}
 use Rattle.handout.specs.Next.{Lent, Marked, Wanted, NextPromise}
 use Rattle.handout.specs.Next.{row_4_7, row_8, row_9, row_finished, row_3, row_10, row_next}
-use Rattle.handout.specs.RowsPassed.{UpToEight, words_refused, table_refused, PastEight, Requested}
-use Rattle.handout.specs.RowsPassed.{Decided, says, writes, RoomDecided, DecidedOf}
-use Rattle.handout.specs.Listing.{Wrote}
-use Rattle.handout.specs.TreeListing.{TreeReady, TreeCounted, TreeFits, TreeListed, none_so_far}
-use Rattle.handout.specs.declared.NextAnswer.{NextAnswer}
-use Rattle.handout.specs.declared.NextAnswer.TheVariants.{Refused, Finished, Next}
-use Rattle.handout.specs.declared.answer.Decision.{Decision}
-use Rattle.handout.specs.declared.answer.Decision.TheVariants.{Answer, Write}
-use Rattle.handout.specs.declared.tree_lister.Request.{Request}
-use Rattle.handout.specs.declared.lister.Lengths.{Lengths}
+use Rattle.handout.specs.RowsPassed.{told, UpToEight, words_refused, table_refused, Wants, Short, short_sentence, short_derivation, TreeShort}
+use Rattle.handout.specs.Listing.{grammar_of}
+use Rattle.handout.specs.TreeListing.{total_by, TreeListed, TreeFits}
+use Rattle.handout.specs.declared.NextAnswer.TheVariants.{Finished, Next}
+use Rattle.handout.specs.declared.tabled.Tabled.{Tabled}
+use Rattle.handout.specs.declared.listing.Listing.{Listing}
 use Rattle.handout.proofs.Targets.{lowest_found, none_found}
+use Rattle.handout.proofs.OwnTable.{view_of, accepted_of, has_table}
 use Rattle.handout.proofs.SizesByTable.{tree_within}
-use Rattle.handout.proofs.ListerSteps.{number_low}
-use Rattle.handout.proofs.ListerWrites.{at_front}
+use Rattle.handout.proofs.TreeWrites.{the_tree}
 
 -- without the table: what working one out is refused with, but for 3; and 8 where that, or nothing, refuses it
-not_3 : (x : GrammarRefusal) → ¬ (number x ≡ 3)
-not_3 (broken_layout p) e = omega arith
-not_3 (no_tree A) e = omega arith
-not_3 (unreached A) e = omega arith
-not_3 (oversize r) e = omega arith
-
 module _ {words buffer : List ℕ} where
-  pub done_without : {a : TableAnswer} {after : List ℕ} {n : ℕ} → tables.Tables words buffer a after → a ≡ table-answer.Done n →
-      UpToEight words (Refused 8 0)
-  done_without (tables.row_4_7 r) e = absurd (let z : ◌≡◌ {A = ℕ} 0 1 = cc in omega arith)
-  done_without (tables.row_3 {g = g} read ok l) e = table_refused (g, read, ok)
-  done_without (tables.row_done {g = g} read ok l is) e = table_refused (g, read, ok)
-
-  pub refused_without : {a : TableAnswer} {after : List ℕ} {k p : ℕ} → tables.Tables words buffer a after →
-      a ≡ table-answer.Refused k p → (k ≡ 3 → UpToEight words (Refused 8 0)) × (¬ (k ≡ 3) → UpToEight words (Refused k p))
-  refused_without {k = k} {p = p} (tables.row_4_7 {x = x} r) e =
+  pub by_row : {a : TableAnswer} {after : List ℕ} {k p : ℕ} → tables.Tables words buffer a after → a ≡ table-answer.Refused k p →
+      ¬ (k ≡ 3) → (y : Refusal) → number_of y ≡ k → place_of y ≡ p → UpToEight words y
+  by_row {k = k} {p = p} (tables.row_4_7 {x = x} r) e n y f h =
       let same : number x ≡ k = cc in
       let there : place x ≡ p = cc in
-      (λ three. absurd (not_3 x (same ∙ three)), λ n. rw (← same, ← there) (words_refused r))
-  refused_without {k = k} (tables.row_3 {g = g} read ok l) e =
-      (λ three. table_refused (g, read, ok), λ n. absurd (n (let same : k ≡ 3 = cc in same)))
-  refused_without (tables.row_done read ok l is) e = absurd (let z : ◌≡◌ {A = ℕ} 0 1 = cc in omega arith)
+      words_refused r (f ∙ sym same) (h ∙ sym there)
+  by_row {k = k} (tables.row_3 {g = g} read ok l) e n y f h = absurd (n (let same : k ≡ 3 = cc in same))
+  by_row (tables.row_done read ok l is) e n y f h = absurd (let z : ◌≡◌ {A = ℕ} 0 1 = cc in omega arith)
 
-pub refuses_untabled : {words places table : List ℕ} {r : TableTest} {a : NextAnswer} → Tested words table r → r ≡ test.NotIts →
-    UpToEight words a → (before : Lent) → Decided words places table before (Answer a)
-refuses_untabled {words} {places} {table} t e u before = refuse (none (rw e at t)) u
-  where
-    none : Tested words table test.NotIts → ¬ Are words (Own table)
-    none (not_its n) = n
+  pub by_8 : {a : TableAnswer} {after : List ℕ} {k p : ℕ} → tables.Tables words buffer a after → a ≡ table-answer.Refused k p →
+      ¬ (k ≡ 4) → ¬ (k ≡ 5) → ¬ (k ≡ 6) → ¬ (k ≡ 7) → UpToEight words refusal.NotItsTable
+  by_8 {k = k} (tables.row_4_7 {x = x} r) e n4 n5 n6 n7 = absurd (go x (let same : number x ≡ k = cc in same))
+    where
+      go : (x : GrammarRefusal) → ¬ (number x ≡ k)
+      go (broken_layout p) e = n4 (sym e)
+      go (no_tree A) e = n5 (sym e)
+      go (unreached A) e = n6 (sym e)
+      go (oversize r) e = n7 (sym e)
+  by_8 (tables.row_3 {g = g} read ok l) e n4 n5 n6 n7 = table_refused (g, read, ok)
+  by_8 (tables.row_done {g = g} read ok l is) e n4 n5 n6 n7 = table_refused (g, read, ok)
 
-    refuse : ¬ Are words (Own table) → {a : NextAnswer} → UpToEight words a → Decided words places table before (Answer a)
-    refuse n (words_refused r) = says (row_4_7 r)
-    refuse n (table_refused (g, read, ok)) = says (row_8 read ok (λ has. n (g, read, (ok, has))))
+-- the table is not the grammar's own
+module _ {words : Bor (List ℕ)} {table : List ℕ} where
+  pub refuses_untabled : {y : Refusal} {before : Lent} → Tested words table None → UpToEight words.now y →
+      NextPromise words.now table before (told y) before
+  refuses_untabled (not_its n) (words_refused r e f) = rw (e, f) (row_4_7 r)
+  refuses_untabled (not_its n) (table_refused (g, read, ok)) = row_8 read ok (λ has. n (g, read, (ok, has)))
 
--- and else the table is the grammar's, whose rules stand where the test noted them; N and the start are handed on as words
-pub own_table : {words table : List ℕ} {r : Testing} {n start rules n' start' : ℕ} → TestPromise words table r →
-    r.answer ≡ test.Its n start rules → (n ≤ 65535 → n' ≡ n) → (start ≤ 65535 → start' ≡ start) →
-    PastEight words r.places table n' start' rules
-own_table {words} {table} {r} {n} {start} {rules} {n'} {start'} p is same same' =
-    go (rw is at p.tested) (p.stand ∙ ap (λ a. places_with a (places_of (layout words))) is) same same'
-  where
-    go : {n start rules : ℕ} → Tested words table (test.Its n start rules) → r.places ≡ places_of (layout words) →
-        (n ≤ 65535 → n' ≡ n) → (start ≤ 65535 → start' ≡ start) → PastEight words r.places table n' start' rules
-    go (its {g = g} read own) s n-is start_is =
-        let ok = in_bounds words read in
-        let few : n' ≡ g.N = n-is (omega (arith, ok.nonterminals)) in
-        let first : start' ≡ g.start = start_is (omega (arith, ok.nonterminals, ok.start_below)) in
-        rw few (record {
-          g = g;
-          accepted = own.0;
-          known = record { view = places_of_lem words read s; tabled = own.1 };
-          starts_at = first;
-          all_rules = refl;
-        })
+-- what is written from the front on, where there is room
+at_front : (us buffer : List ℕ) → length us ≤ length buffer → sets buffer 0 us ≡ over us buffer
+unfolding over
+at_front us buffer h = sets-eq us buffer 0 (omega arith) ∙ rw (zero-add (length us))
 
--- with the table: 9, Finished, or a target
-module _ {words places table : List ℕ} {n start rules : ℕ} (t : PastEight words places table n start rules) {marks : List ℕ} where
-  pub refuses_9 : length marks < rules → (before : Lent) → before.marks ≡ marks →
-      Decided words places table before (Answer (Refused 9 rules))
-  refuses_9 l before e =
-      let all = t.all_rules in
-      let same = ap length e in
-      says {a = Refused 9 rules} (rw all (row_9 t.known.view.is t.accepted t.known.tabled (omega arith)))
+in_front : {n : ℕ} (us buffer : List ℕ) → n ≡ length us → length us ≤ length buffer → take n (over us buffer) ≡ us
+in_front us buffer e h = rw e (written us buffer h).front
 
-  module _ {found : LowestUnused} (f : FirstUnused marks rules found) (enough : rules ≤ length marks) where
-    pub finishes : found ≡ None → (before : Lent) → before.marks ≡ marks → Decided words places table before (Answer Finished)
-    finishes q before e =
-        let all = t.all_rules in
-        let used = none_found t.g f all q in
-        let same = ap length e in
-        says (row_finished t.known.view.is t.accepted t.known.tabled (omega arith) (rw e used))
+module _ (t : Tabled) where
+  abbrev g : Grammar
+  g = grammar_of t
 
-    module _ {r r' total : ℕ} (at : found ≡ At r) (narrowed : r ≤ 65535 → r' ≡ r) (is : total ≡ total_in n table r') where
-      pub requests : Requested words places table marks (record { n = n; start = start; target = r; total = total })
-      requests =
-          let all = t.all_rules in
-          let low = lowest_found t.g f all r at in
-          let number : r' ≡ r = narrowed (omega (arith, number_low t.known low.such.rule)) in
+  abbrev words : List ℕ
+  words = t.reading.now.words.now
+
+  abbrev table : List ℕ
+  table = t.table.now
+
+  -- with the table: 9, Finished, or a target
+  pub refuses_9 : {lent : Lent} {n : ℕ} → n ≡ t.reading.now.rules → length lent.marks < n →
+      NextPromise words table lent (told (refusal.FewMarks n)) lent
+  refuses_9 e l =
+      rw (e ∙ (view_of t).all_rules)
+      (row_9 (view_of t).is (accepted_of t) (has_table t) (omega (arith, e, l, (view_of t).all_rules)))
+
+  module _ {n : ℕ} (e : n ≡ t.reading.now.rules) where
+    pub finishes : {lent : Lent} → n ≤ length lent.marks → FirstUnused lent.marks n None → NextPromise words table lent Finished lent
+    finishes l none =
+        let all = e ∙ (view_of t).all_rules in
+        row_finished (view_of t).is (accepted_of t) (has_table t) (omega (arith, l, all)) (none_found g all none)
+
+    -- whose number is a word
+    pub wants : {marks : List ℕ} {r r' : ℕ} → n ≤ length marks → FirstUnused marks n (Some r) → (r ≤ 65535 → r' ≡ r) →
+        Wants t marks r'
+    wants {r = r} l found narrowed =
+        let all = e ∙ (view_of t).all_rules in
+        let low = lowest_found g all found in
+        let few : r ≤ 65535 = omega (arith, e, low.such.rule, all, (view_few (view_of t)).1) in
+        rw (narrowed few) (record { marked = omega (arith, l, all); target = low })
+
+  -- the target's tree
+  pub below : {marks : List ℕ} {r : ℕ} → Wants t marks r → r < t.reading.now.rules
+  below w = omega (arith, (view_of t).all_rules, w.target.such.rule)
+
+  module _ (lent : Lent) {r : ℕ} (w : Wants t lent.marks r) where
+    wanted : (u : Tree g g.start) × Wanted words table lent.marks g r u
+    wanted =
+        let (u, tree) = the_tree t r (below w) in (
+          u,
           record {
-            g = t.g;
-            accepted = t.accepted;
-            known = t.known;
-            starts_at = t.starts_at;
-            marked = omega arith;
-            target = low;
-            total = is ∙ ap (total_in n table) number;
-          }
+            grammar = (view_of t).is;
+            accepted = accepted_of t;
+            tabled = has_table t;
+            marked = w.marked;
+            target = w.target;
+            tree = tree;
+          },
+        )
 
-      pub decides : {tokens numbers : ℕ} {d : Decision} →
-          RoomDecided words places table (record { n = n; start = start; target = r; total = total }) tokens numbers d →
-          DecidedOf words places table marks tokens numbers d
-      decides room before e = room before (rw e requests)
-
--- the target's tree
-module _ {words places table marks : List ℕ} {q : Request} (p : Requested words places table marks q) where
-  tree_of : (t : Tree p.g p.g.start) × TreeOf measure p.g q.target t
-  tree_of =
-      let ok = in_bounds words p.known.view.is in
-      tree_of_exists measure p.g ok p.accepted.trees p.accepted.reached q.target p.target.such.rule
-
-  wanted : Wanted words table marks p.g q.target tree_of.0
-  wanted = record {
-    grammar = p.known.view.is;
-    accepted = p.accepted;
-    tabled = p.known.tabled;
-    marked = p.marked;
-    target = p.target;
-    tree = tree_of.1;
-  }
-
-  pub ready : TreeReady words places table q.n q.start q.target
-  ready = record {
-    g = p.g;
-    known = p.known;
-    starts_at = p.starts_at;
-    accepted = p.accepted;
-    number = p.target.such.rule;
-  }
-
-  -- there is room for the tree where there is as much as the table's total says, or as was counted
-  pub fits_total : (tokens rules : List ℕ) → (q.total ≤ length tokens) × (q.total ≤ length rules) →
-      TreeFits words places table q.n q.start q.target tokens rules
-  fits_total tokens rules (l, m) = λ g known s t tree.
-      let within = tree_within known tree in
-      let is = p.total in
-      (omega arith, omega arith)
-
-pub fits_counted : {words places table : List ℕ} {n start r : ℕ} {so : Lengths} (tokens rules : List ℕ) →
-    TreeCounted words places table n start r so → so.tokens ≤ length tokens → so.rules ≤ length rules →
-    TreeFits words places table n start r tokens rules
-fits_counted tokens rules counts l m = λ g known s t tree.
-    let d = (counts g known s t tree).0 in
-    let e = (counts g known s t tree).1 in
-    (omega arith, omega arith)
-
--- 3, 10, or the sentence
-module _ {words places table : List ℕ} {q : Request} {tokens numbers : ℕ} where
-  pub room_by_total : (q.total ≤ tokens) × (q.total ≤ numbers) → RoomDecided words places table q tokens numbers (Write q)
-  room_by_total within before p e f = writes p (fits_total p before.tokens before.rules (omega arith, omega arith))
-
-  module _ {so : Lengths} (counts : TreeCounted words places table q.n q.start q.target so) where
-    pub refuses_3 : tokens < so.tokens → RoomDecided words places table q tokens numbers (Answer (Refused 3 so.tokens))
-    refuses_3 l before p e f =
-        let c = (counts p.g p.known p.starts_at (tree_of p).0 (tree_of p).1).0 in
-        says {a = Refused 3 so.tokens} (rw c (row_3 (wanted p) (omega arith)))
-
-    pub refuses_10 : so.tokens ≤ tokens → numbers < so.rules →
-        RoomDecided words places table q tokens numbers (Answer (Refused 10 so.rules))
-    refuses_10 l m before p e f =
-        let c = (counts p.g p.known p.starts_at (tree_of p).0 (tree_of p).1).0 in
-        let d = (counts p.g p.known p.starts_at (tree_of p).0 (tree_of p).1).1 in
-        says {a = Refused 10 so.rules} (rw d (row_10 (wanted p) (omega arith) (omega arith)))
-
-    pub room_counted : so.tokens ≤ tokens → so.rules ≤ numbers → RoomDecided words places table q tokens numbers (Write q)
-    room_counted l m before p e f = writes p (fits_counted before.tokens before.rules counts (omega arith) (omega arith))
-
--- what is decided is answered, or written
-module _ {words places table : List ℕ} {before : Lent} where
-  pub decided_answer : {d : Decision} {a : NextAnswer} → Decided words places table before d → d ≡ Answer a →
-      NextPromise words table before a before
-  decided_answer {a = a} (says {a = b} p) e = let same : b ≡ a = cc in rw (← same) p
-  decided_answer (writes p fits) e = absurd (let z : ◌≡◌ {A = ℕ} 0 1 = cc in omega arith)
-
-  pub decided_write : {d : Decision} {q : Request} → Decided words places table before d → d ≡ Write q →
-      Requested words places table before.marks q ×
-      TreeFits words places table q.n q.start q.target before.tokens before.rules
-  decided_write (says p) e = absurd (let z : ◌≡◌ {A = ℕ} 0 1 = cc in omega arith)
-  decided_write {q = q} (writes {q = q'} p fits) e = let same : q' ≡ q = cc in rw (← same) (p, fits)
-
-module _ {words places table : List ℕ} {q : Request} (before : Lent) (p : Requested words places table before.marks q) where
-  abbrev tree : Tree p.g p.g.start
-  tree = (tree_of p).0
-
-  -- what was written, and marked
-  module _ {tokens rules : List ℕ} {so : Lengths}
-      (fits : TreeFits words places table q.n q.start q.target before.tokens before.rules)
-      (writes : TreeListed words places table q.n q.start q.target before.tokens tokens before.rules rules so) where
-    wrote : Wrote (sentence tree) (derivation tree) before.tokens tokens before.rules rules none_so_far so
-    wrote = writes p.g p.known p.starts_at tree (tree_of p).1
-
-    room : (length (sentence tree) ≤ length before.tokens) × (length (derivation tree) ≤ length before.rules)
-    room = fits p.g p.known p.starts_at tree (tree_of p).1
-
-    pub hands_out : {marks : List ℕ} → Marked (take so.rules rules) before.marks marks →
-        NextPromise words table before (Next q.target so.tokens so.rules)
-        (record { marks = marks; tokens = tokens; rules = rules })
-    hands_out {marks} marked =
-        let ks = derivation tree in
-        let m = wrote.more_tokens in
-        let k = wrote.more_rules in
-        let d : so.tokens ≡ length (sentence tree) = omega arith in
-        let e : so.rules ≡ length ks = omega arith in
-        let t : tokens ≡ over (sentence tree) before.tokens = wrote.sentence ∙ at_front _ before.tokens room.0 in
-        let u : rules ≡ over ks before.rules = wrote.derivation ∙ at_front _ before.rules room.1 in
-        let j : Marked ks before.marks marks = rw (ap (λ (l : List ℕ). take so.rules l) u ∙ in_front e) at marked in
-        rw (t, u, d, e) (row_next (wanted p) room.0 room.1 j)
+    -- 3 and 10, where there is too little room for it
+    pub refuses_room : {x : Refusal} → TreeShort t r (length lent.tokens) (length lent.rules) x →
+        NextPromise words table lent (told x) lent
+    refuses_room short = go (short.of_tree wanted.0 wanted.1.tree)
       where
-        in_front : so.rules ≡ length (derivation tree) →
-            take so.rules (over (derivation tree) before.rules) ≡ derivation tree
-        in_front e = rw e (written (derivation tree) before.rules room.1).front
+        go : {x : Refusal} → Short (length lent.tokens) (length lent.rules) (sentence wanted.0) (derivation wanted.0) x →
+            NextPromise words table lent (told x) lent
+        go (short_sentence l) = row_3 wanted.1 l
+        go (short_derivation l m) = row_10 wanted.1 l m
+
+    -- what was written, and marked
+    pub hands_out : {p q : Listing} {marks tokens rules : List ℕ} → p.sentence.now ≡ lent.tokens → p.derivation.now ≡ lent.rules →
+        p.tokens ≡ 0 → p.rules ≡ 0 → TreeFits t r (length lent.tokens) (length lent.rules) → TreeListed t r p q →
+        tokens ≡ q.sentence.now → rules ≡ q.derivation.now → Marked (take q.rules rules) lent.marks marks →
+        NextPromise words table lent (Next r q.tokens q.rules) (record { marks = marks; tokens = tokens; rules = rules })
+    hands_out {p} {q} {marks} {tokens} {rules} es ed et er fits listed fs fd marked =
+        let s = sentence wanted.0 in
+        let d = derivation wanted.0 in
+        let wrote = listed.of_tree wanted.0 wanted.1.tree in
+        let room = fits.of_tree wanted.0 wanted.1.tree in
+        let ns : q.tokens ≡ length s = omega (arith, wrote.more_tokens) in
+        let nd : q.rules ≡ length d = omega (arith, wrote.more_rules) in
+        let ts : tokens ≡ over s lent.tokens = fs ∙ wrote.sentence ∙ rw (es, et) (at_front s lent.tokens room.0) in
+        let td : rules ≡ over d lent.rules = fd ∙ wrote.derivation ∙ rw (ed, er) (at_front d lent.rules room.1) in
+        let front = ap (λ (l : List ℕ). take q.rules l) td ∙ in_front d lent.rules nd room.1 in
+        rw (ts, td, ns, nd) (row_next wanted.1 room.0 room.1 (rw front at marked))
+
+  -- the tree of a rule has no more numbers than its total
+  pub fits_total : {r n tokens rules : ℕ} → n ≡ total_by t r → n ≤ tokens → n ≤ rules → TreeFits t r tokens rules
+  fits_total e l m = record { of_tree = λ u z. let within = tree_within t z in (omega (arith, within), omega (arith, within)) }
+
+  -- what there is no room for, of what was counted
+  module _ {r tokens rules : ℕ} {p q : Listing} (counted : TreeListed t r p q) (e : p.tokens ≡ 0) (f : p.rules ≡ 0) where
+    pub short_tokens : tokens < q.tokens → TreeShort t r tokens rules (refusal.TooShort q.tokens)
+    short_tokens l = record {
+      of_tree = λ u z.
+          let wrote = counted.of_tree u z in
+          let is : q.tokens ≡ length (sentence u) = omega (arith, wrote.more_tokens) in
+          rw is (short_sentence (omega arith));
+    }
+
+    pub short_rules : q.tokens ≤ tokens → rules < q.rules → TreeShort t r tokens rules (refusal.DerivationShort q.rules)
+    short_rules l m = record {
+      of_tree = λ u z.
+          let wrote = counted.of_tree u z in
+          let is : q.rules ≡ length (derivation u) = omega (arith, wrote.more_rules) in
+          rw is (short_derivation (omega (arith, wrote.more_tokens)) (omega arith));
+    }
+
+    pub fits_counted : q.tokens ≤ tokens → q.rules ≤ rules → TreeFits t r tokens rules
+    fits_counted l m = record {
+      of_tree = λ u z.
+          let wrote = counted.of_tree u z in
+          (omega (arith, wrote.more_tokens), omega (arith, wrote.more_rules));
+    }

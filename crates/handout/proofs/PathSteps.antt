@@ -1,184 +1,162 @@
 -- The way from a nonterminal up to the start, by context choices: the climb ends, as contexts fall, and its steps are fewer than
--- the nonterminals; and what lies before and after the first nonterminal is what lies beside those on the path, step by step.
+-- the nonterminals; and what lies before and after the first nonterminal is what lies beside those on the way, step by step.
 -- Assumes nothing.
 use Prim.Native.Nat.{ℕ, zero, suc, ◌+◌, ◌-◌, ◌≤◌, ◌<◌}
-use native.Mathlib.Decide.{dec_lt}
 use native.Mathlib.Numerals.{add-one}
 use native.Mathlib.Omega.{arith}
-use mathlib.Core.List.{List}
+use mathlib.Core.List.{List, [], ◌∷◌, ◌++◌, reverse}
 use mathlib.Core.Path.{◌≡◌, refl, ap, sym, ◌∙◌}
-use lib.ListN.{length, get_or, set}
-use lib.Seq.{get_or-set_same, get_or-set_other}
-use Rattle.grammar.specs.Words.{Grammar}
-use Rattle.grammar.specs.Tree.{Open}
-use Rattle.grammar.specs.Terms.{measure}
-use Rattle.grammar.specs.Least.{ChosenOpen}
-use Rattle.entries.specs.Table.{rule_in, place_in}
-use Rattle.handout.specs.declared.lister.Lengths.{Lengths}
-use Rattle.handout.specs.Listing.{TableView, context_by, SymbolsListed}
-use Rattle.handout.specs.TreeListing.{FrontReady, BackReady, back_of, FrontListed, upper, climbed, PathOf, before, after}
-use Rattle.handout.specs.TreeListing.{SideReady, SideListed, ClimbReady}
+use lib.ListN.{length, get_or, set, take, drop}
+use lib.Seq.{take-suc-set}
+use Rattle.std.proofs.lemmas.List.{drop_more, length-reverse, get_or-reverse}
+use Rattle.layout.proofs.WordsRead.{view_few}
+use Rattle.entries.specs.Table.{context_in}
+use Rattle.handout.specs.declared.tabled.Tabled.{Tabled}
+use Rattle.handout.specs.declared.listing.Listing.{Listing}
+use Rattle.handout.specs.Listing.{sizes_by, Few, SymbolsListed}
+use Rattle.handout.specs.TreeListing.{Inner, front_of, back_of, FrontListed, upper, Leads, arrived, up, before, after}
+use Rattle.handout.specs.TreeListing.{SideReady, WayReady, SideListed, WayListed}
+use Rattle.handout.proofs.OwnTable.{view_of}
+use Rattle.handout.proofs.ContextRules.{upper_below, context_falls}
 use Rattle.handout.proofs.FewContexts.{lower, lower_falls, lower_within}
-use Rattle.handout.proofs.TreeListerSteps.{Up, up, open_nonterminal, start_written, before-ready, front_ready}
-use Rattle.handout.proofs.TreeListerSteps.{before_written}
-use Rattle.handout.proofs.TreeListerSteps.{back_ready, after-ready, after_written}
+use Rattle.handout.proofs.TreeListerSteps.{start_written, inner_of, before-ready, front_few, before_written}
+use Rattle.handout.proofs.TreeListerSteps.{back_few, after-ready, after_written}
 
--- the context choices lead on from a, so many steps up from A, and by as many fewer contexts are lower
-pub record LedUp (table : List ℕ) (n : ℕ) (g : Grammar) (A steps a : ℕ) : Type 0 where
-  pub above : Open g a
-  pub follows : ChosenOpen measure g above
-  pub fallen : steps + lower table n (context_by table a) ≤ lower table n (context_by table A)
+module _ (t : Tabled) where
+  -- one more nonterminal at the end
+  snoc : {A B : ℕ} {w : List ℕ} → Leads t A B w → ¬ (B ≡ t.reading.now.start) → Leads t A (upper t B) (w ++ (B ∷ []))
+  snoc arrived d = up d arrived
+  snoc (up e h) d = up e (snoc h d)
 
--- what the climb keeps: a is so many steps up from A, and those below it stand on the path
-pub record OnWay (words places table : List ℕ) (start A : ℕ) (path : List ℕ) (a steps : ℕ) : Type 0 where
-  pub here : a ≡ climbed words places table A steps
-  pub each : (i : ℕ) → i < steps → get_or path i 0 ≡ climbed words places table A i
-  pub other : (i : ℕ) → i < steps → ¬ (climbed words places table A i ≡ start)
-  pub leads : (n : ℕ) (g : Grammar) → TableView words places table n g → start ≡ g.start → (x : Open g A) →
-      ChosenOpen measure g x → LedUp table n g A steps a
+  -- what the climb keeps: a is so many steps up from A by the front of the path, and by as many fewer contexts are lower
+  pub record OnWay (A : ℕ) (path : List ℕ) (a steps : ℕ) : Type 0 where
+    pub leads : Leads t A a (take steps path)
+    pub nonterminal : a < t.reading.now.nonterminals
+    pub fallen : steps + lower t.table.now t.reading.now.nonterminals (context_in t.table.now a) ≤
+        lower t.table.now t.reading.now.nonterminals (context_in t.table.now A)
 
-pub way_begins : (words places table : List ℕ) (start A : ℕ) (path : List ℕ) → OnWay words places table start A path A 0
-unfolding climbed
-way_begins words places table start A path = record {
-  here = refl;
-  each = λ i l. absurd (omega arith);
-  other = λ i l. absurd (omega arith);
-  leads = λ n g known s x h. record { above = x; follows = h; fallen = omega arith };
-}
+  pub way_begins : (A : ℕ) (path : List ℕ) → A < t.reading.now.nonterminals → OnWay A path A 0
+  way_begins A path h = record { leads = arrived; nonterminal = h; fallen = omega arith }
 
-module _ {words places table : List ℕ} {start A : ℕ} {path : List ℕ} {a steps : ℕ}
-    (way : OnWay words places table start A path a steps) where
-  -- one step up
-  pub way_on : {path' : List ℕ} {b : ℕ} → ¬ (a ≡ start) → steps < length path → path' ≡ set path steps a →
-      b ≡ upper words places table a → OnWay words places table start A path' b (steps + 1)
-  unfolding climbed
-  way_on {path'} {b} d l p e = record {
-    here = rw (add-one steps) (e ∙ ap (upper words places table) way.here);
-    each = λ i m. each i m (dec_lt i steps);
-    other = λ i m. other i m (dec_lt i steps);
-    leads = λ n g known s x h.
-        let so = way.leads n g known s x h in
-        let u = up known so.above so.follows (λ q. d (q ∙ sym s)) _ _ b refl refl e in
-        let low : b < n = omega (arith, open_nonterminal known u.above, known.view.nonterminals) in
-        let less = lower_falls table n b _ low u.falls in
-        record { above = u.above; follows = u.follows; fallen = omega (arith, so.fallen, less) };
-  }
-    where
-      each : (i : ℕ) → i < steps + 1 → Dec (i < steps) → get_or path' i 0 ≡ climbed words places table A i
-      each i m (yes k) =
-          ap (λ (t : List ℕ). get_or t i 0) p ∙ get_or-set_other path steps i a 0 (λ q. omega arith) ∙ way.each i k
-      each i m (no k) =
-          let same : i ≡ steps = omega arith in
-          rw same (ap (λ (t : List ℕ). get_or t steps 0) p ∙ get_or-set_same path steps a 0 l ∙ way.here)
-
-      other : (i : ℕ) → i < steps + 1 → Dec (i < steps) → ¬ (climbed words places table A i ≡ start)
-      other i m (yes k) = way.other i k
-      other i m (no k) =
-          let same : i ≡ steps = omega arith in
-          λ q. d (way.here ∙ ap (climbed words places table A) (sym same) ∙ q)
-
-  module _ {path₀ : List ℕ} (ready : ClimbReady words places table start A path₀) where
-    so_far : LedUp table ready.n ready.g A steps a
-    so_far = way.leads ready.n ready.g ready.known ready.starts_at ready.above ready.follows
-
-    few_steps : steps < ready.n
+  module _ {A : ℕ} {path : List ℕ} {a steps : ℕ} (below : A < t.reading.now.nonterminals) (way : OnWay A path a steps) where
+    pub few_steps : steps < 128
     few_steps =
-        let low : A < ready.n = omega (arith, open_nonterminal ready.known ready.above, ready.known.view.nonterminals) in
-        omega (arith, so_far.fallen, lower_within table ready.n A low)
+        omega (arith, way.fallen, lower_within t.table.now t.reading.now.nonterminals A below, (view_few (view_of t)).0)
 
-    -- at the start
-    pub way-ends : a ≡ start → length path ≡ length path₀ → PathOf words places table start A path steps
-    way-ends e l = record {
-      short = omega (arith, few_steps, ready.long);
-      each = way.each;
-      other = way.other;
-      ends = sym way.here ∙ e;
+    -- one step up
+    module _ (d : ¬ (a ≡ t.reading.now.start)) where
+      inner : Inner t a
+      inner = record { nonterminal = way.nonterminal; other = d }
+
+      pub way_falls : context_in t.table.now (upper t a) < context_in t.table.now a
+      way_falls = context_falls t inner
+
+      pub way_on : steps < length path → OnWay A (set path steps a) (upper t a) (steps + 1)
+      way_on l = record {
+        leads = rw (add-one steps, take-suc-set path steps a l) (snoc way.leads d);
+        nonterminal = upper_below t inner;
+        fallen =
+            omega (
+              arith,
+              way.fallen,
+              lower_falls t.table.now t.reading.now.nonterminals (upper t a) _ (upper_below t inner) way_falls,
+            );
+      }
+
+  -- what a way begins with, and where none is left
+  next_on : {B C a : ℕ} {w : List ℕ} → Leads t B C (a ∷ w) → (B ≡ a) × (¬ (a ≡ t.reading.now.start)) × Leads t (upper t a) C w
+  next_on (up d h) = (refl, d, h)
+
+  none_on : {B C : ℕ} → Leads t B C [] → B ≡ C
+  none_on arrived = refl
+
+  -- up: what is written so far, and then what lies after the nonterminal that the rest of the way begins with, lie after the first
+  pub record AfterSo (A : ℕ) (rest : List ℕ) (p q : Listing) : Type 0 where
+    pub B : ℕ
+    pub leads : Leads t B t.reading.now.start rest
+    pub ready : SideReady after t A p → SideReady after t B q
+    pub goes_on : (r : Listing) → SideListed after t B q r → SideListed after t A p r
+
+  pub record WayAfter (way rest : List ℕ) (p q : Listing) : Type 0 where
+    pub from : (A : ℕ) → Leads t A t.reading.now.start way → AfterSo A rest p q
+
+  pub after_begins : (way : List ℕ) (p : Listing) → WayAfter way way p p
+  after_begins way p = record { from = λ A leads. record { B = A; leads = leads; ready = λ h. h; goes_on = λ r h. h } }
+
+  -- the next one's symbols after the place can be listed, and are
+  module _ {way rest : List ℕ} {a : ℕ} {p q : Listing} (so : WayAfter way (a ∷ rest) p q) where
+    back_at : WayReady after t way p → Inner t a × Few q (sizes_by t (back_of t a))
+    back_at ready =
+        let from = so.from ready.A ready.leads in
+        let next = next_on from.leads in
+        let there = rw next.0 at (from.ready ready.ready) in
+        (inner_of t there next.1, back_few t there next.1)
+
+    pub back_inner : WayReady after t way p → Inner t a
+    back_inner ready = (back_at ready).0
+
+    pub back_count : WayReady after t way p → Few q (sizes_by t (back_of t a))
+    back_count ready = (back_at ready).1
+
+    pub after_goes_on : {r : Listing} → SymbolsListed t (back_of t a) q r → WayAfter way rest p r
+    after_goes_on back = record {
+      from = λ A leads.
+          let from = so.from A leads in
+          let next = next_on from.leads in
+          record {
+            B = upper t a;
+            leads = next.2;
+            ready = λ ready. after-ready t (rw next.0 at (from.ready ready)) next.1 back;
+            goes_on = λ s above. from.goes_on s (rw next.0 (after_written t next.1 back above));
+          };
     }
 
-    pub way_short : steps < length path₀
-    way_short = omega (arith, few_steps, ready.long)
+  pub after_ends : {way : List ℕ} {p q : Listing} → WayAfter way [] p q → WayListed after t way p q
+  after_ends {q = q} so = record {
+    from = λ A leads. let from = so.from A leads in from.goes_on q (start_written t after (none_on from.leads));
+  }
 
-    module _ (d : ¬ (a ≡ start)) where
-      above : Up ready.known so_far.above (rule_in table a) (place_in table a) (upper words places table a)
-      above = up ready.known so_far.above so_far.follows (λ e. d (e ∙ sym ready.starts_at)) _ _ _ refl refl refl
+  -- down: what lies before the nonterminal that the rest of the way begins with is written
+  pub before_begins : (p : Listing) → WayListed before t [] p p
+  before_begins p = record { from = λ B leads. start_written t before (none_on leads) }
 
-      pub way_falls : context_by table (upper words places table a) < context_by table a
-      way_falls = above.falls
+  -- so far up, what lies before can be listed
+  record ReadyAt (rest : List ℕ) (p : Listing) : Type 0 where
+    B : ℕ
+    leads : Leads t B t.reading.now.start rest
+    ready : SideReady before t B p
 
--- over a path
-module _ {words places table : List ℕ} {n start A steps : ℕ} {path : List ℕ} (way : PathOf words places table start A path steps)
-  where
-    -- what lies before each can be listed
-    before_at : {p : Lengths} → SideReady before words places table n start A p → (i : ℕ) → i ≤ steps →
-        SideReady before words places table n start (climbed words places table A i) p
-    unfolding climbed
-    before_at ready zero l = ready
-    before_at ready (suc i) l = before-ready (before_at ready i (omega arith)) (way.other i l)
+  ready_at : (i A : ℕ) {way : List ℕ} {p : Listing} → Leads t A t.reading.now.start way → SideReady before t A p →
+      i < length way → ReadyAt (drop i way) p
+  ready_at zero A leads ready h = record { B = A; leads = leads; ready = ready }
+  ready_at (suc i) A arrived ready h = absurd (omega arith)
+  ready_at (suc i) A (up d leads) ready h = ready_at i (upper t A) leads (before-ready t ready d) (omega arith)
 
-    -- down: where what is before one is written, what is beside the next can be, and then what is before that is written
-    pub front_at : {p q : Lengths} {b : ℕ} {s t x y : List ℕ} → SideReady before words places table n start A p →
-        (i : ℕ) → 0 < i → i ≤ steps → b ≡ get_or path (i - 1) 0 →
-        SideListed before words places table n start (climbed words places table A i) s t x y p q →
-        FrontReady words places table n b q
-    unfolding climbed
-    front_at ready zero h l e above = absurd (omega arith)
-    front_at ready (suc i) h l e above =
-        let back : suc i - 1 ≡ i = omega arith in
-        let same = e ∙ ap (λ (j : ℕ). get_or path j 0) back ∙ way.each i l in
-        rw same (front_ready (before_at ready i (omega arith)) (way.other i l) above)
+  module _ {a : ℕ} {rest : List ℕ} {p q : Listing} (so : WayListed before t rest p q) where
+    pub front_at : {way : List ℕ} (i : ℕ) → i < length way → drop i way ≡ a ∷ rest → WayReady before t way p →
+        Inner t a × Few q (1 + sizes_by t (front_of t a))
+    front_at i h e ready =
+        let at = rw e at (ready_at i ready.A ready.leads ready.ready h) in
+        let next = next_on at.leads in
+        let there = rw next.0 at at.ready in
+        (inner_of t there next.1, front_few t there next.1 (so.from _ next.2))
 
-    pub before_goes_on : {p q r : Lengths} {b : ℕ} {s t u x y z : List ℕ} (i : ℕ) → 0 < i → i ≤ steps → b ≡ get_or path (i - 1) 0 →
-        SideListed before words places table n start (climbed words places table A i) s t x y p q →
-        FrontListed words places table n b t u y z q r →
-        SideListed before words places table n start (climbed words places table A (i - 1)) s u x z p r
-    unfolding climbed
-    before_goes_on zero h l e above front = absurd (omega arith)
-    before_goes_on (suc i) h l e above front =
-        let back : suc i - 1 ≡ i = omega arith in
-        let same = e ∙ ap (λ (j : ℕ). get_or path j 0) back ∙ way.each i l in
-        rw back (before_written (way.other i l) above (rw same at front))
+    pub before_goes_on : {r : Listing} → FrontListed t a q r → WayListed before t (a ∷ rest) p r
+    before_goes_on front = record {
+      from = λ B leads.
+          let next = next_on leads in
+          rw next.0 (before_written t next.1 (so.from _ next.2) front);
+    }
 
-    pub before_begins : {p : Lengths} {s x : List ℕ} →
-        SideListed before words places table n start (climbed words places table A steps) s s x x p p
-    before_begins = start_written before way.ends
-
-    pub before_ends : {p q : Lengths} {i : ℕ} {s t x y : List ℕ} → i ≡ 0 →
-        SideListed before words places table n start (climbed words places table A i) s t x y p q →
-        SideListed before words places table n start A s t x y p q
-    unfolding climbed
-    before_ends e h = rw e at h
-
--- up: what is written so far, and then what lies after the next one, lie after the first
-pub record AfterSo (words places table : List ℕ) (n start A : ℕ) (a b x y : List ℕ) (p q : Lengths) (i : ℕ) : Type 0 where
-  pub ready : SideReady after words places table n start A p →
-      SideReady after words places table n start (climbed words places table A i) q
-  pub goes_on : (c v : List ℕ) (r : Lengths) →
-      SideListed after words places table n start (climbed words places table A i) b c y v q r →
-      SideListed after words places table n start A a c x v p r
-
-pub after_begins : (words places table : List ℕ) (n start A : ℕ) (a x : List ℕ) (p : Lengths) →
-    AfterSo words places table n start A a a x x p p 0
-unfolding climbed
-after_begins words places table n start A a x p = record { ready = λ h. h; goes_on = λ c v r h. h }
-
-module _ {words places table : List ℕ} {n start A steps : ℕ} {path : List ℕ} (way : PathOf words places table start A path steps)
-    {a b x y : List ℕ} {p q : Lengths} {i : ℕ} (so : AfterSo words places table n start A a b x y p q i) where
-  pub back_at : {b' : ℕ} → SideReady after words places table n start A p → i < steps → b' ≡ get_or path i 0 →
-      BackReady words places table n b' q
-  back_at ready l e = rw (e ∙ way.each i l) (back_ready (so.ready ready) (way.other i l))
-
-  pub after_goes_on : {b' : ℕ} {d w : List ℕ} {r : Lengths} → i < steps → b' ≡ get_or path i 0 →
-      SymbolsListed words places table n (back_of words places table b') b d y w q r →
-      AfterSo words places table n start A a d x w p r (i + 1)
-  unfolding climbed
-  after_goes_on {d = d} {w = w} {r = r} l e back =
-      let here : SymbolsListed words places table n (back_of words places table (climbed words places table A i)) b d y w q r =
-      rw (e ∙ way.each i l) at back in
-      rw (add-one i) (record {
-        ready = λ h. after-ready (so.ready h) (way.other i l) here;
-        goes_on = λ c v s above. so.goes_on c v s (after_written (way.other i l) here above);
-      })
-
-  pub after_ends : i ≡ steps → SideListed after words places table n start A a b x y p q
-  after_ends e =
-      so.goes_on b y q (start_written after (ap (climbed words places table A) e ∙ way.ends))
+-- what is seen of a list from its end on, after so many
+pub seen_back : (way : List ℕ) (n a : ℕ) → n < length (reverse way) → a ≡ get_or (reverse way) n a →
+    (length way - (n + 1) < length way) × (drop (length way - (n + 1)) way ≡ a ∷ drop (length way - n) way)
+seen_back way n a h e =
+    let same = length-reverse way in
+    let m = length way - (n + 1) in
+    let k : length way - 1 - n ≡ m = omega arith in
+    let after : m + 1 ≡ length way - n = omega (arith, same) in
+    let there : get_or way m a ≡ a =
+    sym (e ∙ get_or-reverse way n a (omega (arith, same)) ∙ ap (λ (i : ℕ). get_or way i a) k) in
+    let below : m < length way = omega (arith, same) in
+    (below, drop_more way m a below ∙ rw (there, after))

@@ -7,12 +7,11 @@ use mathlib.Core.Path.{◌≡◌}
 use mathlib.Core.Logic.{◌⊎◌, inl, inr}
 use mathlib.Core.List.{List}
 use lib.ListN.{get_or}
+use Rattle.std.specs.Prelude.{Some, None}
 use Rattle.grammar.specs.Words.{Grammar, R}
 use Rattle.grammar.specs.Refusals.{Lowest}
 use Rattle.grammar.proofs.Search.{all_or_lowest}
 use Rattle.marks.specs.Marks.{FirstUnused, at, none_unused}
-use Rattle.marks.specs.declared.LowestUnused.{LowestUnused}
-use Rattle.marks.specs.declared.LowestUnused.TheVariants.{At, None}
 use Rattle.handout.specs.Next.{Unused, AllUsed}
 
 module _ (g : Grammar) (marks : List ℕ) where
@@ -27,20 +26,16 @@ module _ (g : Grammar) (marks : List ℕ) where
       each r l = of_mark r l (ℕ_discrete (get_or marks r 0) 0)
 
 -- the search
-module _ (g : Grammar) {marks : List ℕ} {rules : ℕ} where
-  pub lowest_found : {a : LowestUnused} → FirstUnused marks rules a → rules ≡ R g → (r : ℕ) → a ≡ At r → Lowest (Unused g marks) r
-  lowest_found (at {r = k} l z below) e r is =
-      let same : k ≡ r = cc in
-      record {
-        such = record { rule = omega arith; zero = rw same at z };
-        lowest = λ m u. go same m u (dec_lt m r);
-      }
+module _ (g : Grammar) {marks : List ℕ} {rules : ℕ} (all : rules ≡ R g) where
+  pub lowest_found : {r : ℕ} → FirstUnused marks rules (Some r) → Lowest (Unused g marks) r
+  lowest_found {r} (at l z below) = record {
+    such = record { rule = omega arith; zero = z };
+    lowest = λ m u. go m u (dec_lt m r);
+  }
     where
-      go : k ≡ r → (m : ℕ) → Unused g marks m → Dec (m < r) → r ≤ m
-      go same m u (yes lt) = absurd (below m (omega arith) u.zero)
-      go same m u (no ge) = omega arith
-  lowest_found (none_unused below) e r is = absurd (let z : ◌≡◌ {A = ℕ} 0 1 = cc in omega arith)
+      go : (m : ℕ) → Unused g marks m → Dec (m < r) → r ≤ m
+      go m u (yes lt) = absurd (below m (omega arith) u.zero)
+      go m u (no ge) = omega arith
 
-  pub none_found : {a : LowestUnused} → FirstUnused marks rules a → rules ≡ R g → a ≡ None → AllUsed g marks
-  none_found (at l z below) e is = absurd (let z : ◌≡◌ {A = ℕ} 0 1 = cc in omega arith)
-  none_found (none_unused below) e is = λ r l. below r (omega arith)
+  pub none_found : FirstUnused marks rules None → AllUsed g marks
+  none_found (none_unused below) r l = below r (omega arith)

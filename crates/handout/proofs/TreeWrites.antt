@@ -1,26 +1,26 @@
 -- What listing the tree of a rule needs and leaves: its parts are what lies before the rule's left side, the rule's listing, and
--- what lies after, and their sizes by the table are together few enough to count. Assumes nothing.
-use Prim.Native.Nat.{ℕ, ◌+◌, ◌≤◌}
+-- what lies after, and their sizes by the table are together no more than the rule's total. Assumes nothing.
+use Prim.Native.Nat.{ℕ, ◌+◌, ◌≤◌, ◌<◌}
 use native.Mathlib.Omega.{arith}
-use mathlib.Core.List.{List, ◌++◌}
+use mathlib.Core.List.{List, ◌∷◌, ◌++◌}
 use mathlib.Core.Path.{◌≡◌, ap, sym, ◌∙◌}
-use lib.ListN.{length}
-use Rattle.grammar.specs.Words.{Grammar}
-use Rattle.grammar.specs.Tree.{Tree, node, sentence, sentences, derivation}
-use Rattle.grammar.specs.Terms.{measure, limit}
-use Rattle.grammar.specs.Least.{TreeOf}
+use Rattle.grammar.specs.Words.{Grammar, R, RuleAt}
+use Rattle.grammar.specs.Tree.{Tree, Forest, node, sentence, sentences, derivation, derivations}
+use Rattle.grammar.specs.Terms.{measure}
+use Rattle.grammar.specs.Least.{ChosenForest, TreeOf}
 use Rattle.grammar.proofs.LayoutExact.{in_bounds}
+use Rattle.grammar.proofs.SameListing.{same_forest}
 use Rattle.grammar.proofs.TreeOfExists.{tree_of_exists}
 use Rattle.layout.proofs.RulesInView.{viewed_left, viewed_right}
-use Rattle.handout.specs.declared.lister.Lengths.{Lengths}
-use Rattle.handout.specs.Listing.{RuleReady, sizes_by, right_of, RuleListed}
-use Rattle.handout.specs.TreeListing.{left_of, AlongReady, AlongListed, PathOf, before, after, tokens_on, rules_on, size_on}
-use Rattle.handout.specs.TreeListing.{SideReady, SideWrote, ClimbReady}
-use Rattle.handout.specs.TreeListing.{WayReady, SideListed, WayListed, TreeReady, none_so_far, TreeListed, TreeCounted}
+use Rattle.handout.specs.declared.tabled.Tabled.{Tabled}
+use Rattle.handout.specs.declared.listing.Listing.{Listing}
+use Rattle.handout.specs.Listing.{grammar_of, sizes_by, right_of, Few, Wrote, RuleListed}
+use Rattle.handout.specs.TreeListing.{left_of, Leads, before, after, tokens_on, rules_on, size_on, WayReady, SideWrote}
+use Rattle.handout.specs.TreeListing.{WayListed, total_by, TreeListed}
 use Rattle.handout.proofs.Listings.{and_then}
-use Rattle.handout.proofs.ListerWrites.{rule_written}
+use Rattle.handout.proofs.OwnTable.{view_of, accepted_of}
 use Rattle.handout.proofs.OpenListings.{plug_tokens, plug_rules}
-use Rattle.handout.proofs.SizesByTable.{open_within, total_within, total_few}
+use Rattle.handout.proofs.SizesByTable.{open_within, total_within}
 use Rattle.handout.proofs.TreeListerSteps.{wrote_as}
 
 -- a tree's listing in three parts
@@ -31,106 +31,78 @@ module _ {g : Grammar} {r : ℕ} {t : Tree g g.start} (z : TreeOf measure g r t)
   rules_are : derivation t ≡ rules_on before z.above ++ (derivation (node r z.rule z.under) ++ rules_on after z.above)
   rules_are = ap derivation z.whole ∙ plug_rules z.above (node r z.rule z.under)
 
--- listed into no room, it is counted
-pub counted : {words places table a b x y : List ℕ} {n start r : ℕ} {so : Lengths} →
-    TreeListed words places table n start r a b x y so → TreeCounted words places table n start r so
-counted writes = λ g known s t tree.
-    let wrote = writes g known s t tree in
-    let e = wrote.more_tokens in
-    let f = wrote.more_rules in
-    (omega arith, omega arith)
+module _ (t : Tabled) (r : ℕ) where
+  abbrev g : Grammar
+  g = grammar_of t
 
-module _ {words places table : List ℕ} {n start r : ℕ} (ready : TreeReady words places table n start r) where
-  the_tree : (t : Tree ready.g ready.g.start) × TreeOf measure ready.g r t
-  the_tree =
-      let ok = ready.accepted in
-      tree_of_exists measure ready.g (in_bounds words ready.known.view.is) ok.trees ok.reached r ready.number
+  -- of a rule its number is written, and every chosen forest of its symbols: all such are listed alike
+  rule_written : {A : ℕ} {w : List ℕ} {p q : Listing} → RuleListed t r p q → RuleAt g r A w → (f : Forest g w) →
+      ChosenForest measure g f → Wrote (sentences f) (r ∷ derivations f) p q
+  rule_written h rule f chosen =
+      let m = h.lists.symbols in
+      let same = same_forest measure m.forest (viewed_right (view_of t) rule) f m.chosen chosen in
+      rw (← same.sentences_same, ← same.derivations_same, ← m.tokens, ← m.rules, ← h.lists.is) h.wrote
 
-  -- the three parts together are at most 4,096
-  parts : size_on n table before the_tree.1.above + (1 + sizes_by n table (right_of words places r))
-      + size_on n table after the_tree.1.above ≤ limit
-  parts =
-      let z = the_tree.1 in
-      let beside = open_within ready.known z.above z.follows in
-      let whole = total_within ready.known z.rule in
-      let right = ap (sizes_by n table) (viewed_right ready.known.view z.rule) in
-      omega (arith, beside, whole, right, total_few ready.known ready.accepted ready.number)
+  module _ (number : r < t.reading.now.rules) where
+    pub the_tree : (u : Tree g g.start) × TreeOf measure g r u
+    the_tree =
+        let ok = accepted_of t in
+        let low : r < R g = omega (arith, (view_of t).all_rules) in
+        tree_of_exists measure g (in_bounds t.reading.now.words.now (view_of t).is) ok.trees ok.reached r low
 
-  abbrev left : ℕ
-  left = left_of words places r
+    is_left : left_of t r ≡ the_tree.1.A
+    is_left = viewed_left (view_of t) the_tree.1.rule
 
-  is_left : left ≡ the_tree.1.A
-  is_left = viewed_left ready.known.view the_tree.1.rule
+    pub left_below : left_of t r < t.reading.now.nonterminals
+    left_below = omega (arith, is_left, the_tree.1.rule.left, (view_of t).nonterminals)
 
-  first_ready : SideReady before words places table n start left none_so_far
-  first_ready = rw is_left (record {
-    g = ready.g;
-    known = ready.known;
-    starts_at = ready.starts_at;
-    above = the_tree.1.above;
-    follows = the_tree.1.follows;
-    few = omega (arith, parts);
-  })
+    -- the three parts together
+    parts : size_on t before the_tree.1.above + (1 + sizes_by t (right_of t r)) + size_on t after the_tree.1.above ≤ total_by t r
+    parts =
+        let z = the_tree.1 in
+        let beside = open_within t z.above z.follows in
+        let whole = total_within t z.rule in
+        let right = ap (sizes_by t) (viewed_right (view_of t) z.rule) in
+        omega (arith, beside, whole, right)
 
-  pub climb_ready : {A : ℕ} {path : List ℕ} → A ≡ left → 128 ≤ length path → ClimbReady words places table start A path
-  climb_ready e long = rw e (record {
-    n = n;
-    g = first_ready.g;
-    known = first_ready.known;
-    starts_at = first_ready.starts_at;
-    above = first_ready.above;
-    follows = first_ready.follows;
-    long = omega (arith, ready.known.view.nonterminals, (in_bounds words ready.known.view.is).nonterminals);
-  })
-
-  module _ {path : List ℕ} {steps : ℕ} (way : PathOf words places table start left path steps) where
-    pub along_ready : AlongReady words places table n r path steps
-    along_ready = record { start = start; path_of = way; ready = ready }
-
-    pub along_listed : {k : ℕ} {a d x u : List ℕ} {so : Lengths} → k ≡ r →
-        AlongListed words places table n k path steps a d x u so → TreeListed words places table n start r a d x u so
-    along_listed e h = (rw e at h) start way ready
-
-    pub way-before : WayReady before words places table n path steps none_so_far
-    way-before = record { start = start; A = left; path_of = way; ready = first_ready }
-
-    module _ {a b x y : List ℕ} {p : Lengths}
-        (first : WayListed before words places table n path steps a b x y none_so_far p) where
-      so_far : SideWrote n table before the_tree.1.above a b x y none_so_far p
-      so_far =
-          let here : SideListed before words places table n start the_tree.1.A a b x y none_so_far p =
-          rw is_left at (first start left way) in
-          here ready.g ready.known ready.starts_at the_tree.1.above the_tree.1.follows
-
-      pub target_ready : RuleReady words places table n r p
-      target_ready = record {
-        g = ready.g;
-        known = ready.known;
-        number = ready.number;
-        few = omega (arith, parts, so_far.counted);
-      }
-
-      module _ {c v : List ℕ} {q : Lengths} (rule : RuleListed words places table n r b c y v p q) where
-        last_ready : SideReady after words places table n start left q
-        last_ready = rw is_left (record {
-          g = ready.g;
-          known = ready.known;
-          starts_at = ready.starts_at;
+    module _ {p : Listing} (few : Few p (total_by t r)) {way : List ℕ} (leads : Leads t (left_of t r) t.reading.now.start way) where
+      pub way_before : WayReady before t way p
+      way_before = record {
+        A = the_tree.1.A;
+        leads = rw is_left at leads;
+        ready = record {
           above = the_tree.1.above;
           follows = the_tree.1.follows;
-          few = omega (arith, parts, so_far.counted, rule.counted);
-        })
+          few = omega (arith, few, parts);
+        };
+      }
 
-        pub way-after : WayReady after words places table n path steps q
-        way-after = record { start = start; A = left; path_of = way; ready = last_ready }
+      module _ {q : Listing} (first : WayListed before t way p q) where
+        so_far : SideWrote t before the_tree.1.above p q
+        so_far = (first.from the_tree.1.A (rw is_left at leads)).by the_tree.1.above the_tree.1.follows
 
-        -- TREE: the sentence and the derivation of the rule's tree are written
-        pub tree_listed : {d u : List ℕ} {s : Lengths} → WayListed after words places table n path steps c d v u q s →
-            TreeListed words places table n start r a d x u s
-        tree_listed last =
-            λ g known begin t z.
-            let e = viewed_left known.view z.rule in
-            let head = ((rw e at (first start left way)) g known begin z.above z.follows).wrote in
-            let tail = ((rw e at (last start left way)) g known begin z.above z.follows).wrote in
-            let middle = rule_written known rule z.rule z.under z.opens in
-            wrote_as (sym (tokens_are z)) (sym (rules_are z)) (and_then head (and_then middle tail))
+        pub rule_few : Few q (1 + sizes_by t (right_of t r))
+        rule_few = omega (arith, few, parts, so_far.counted)
+
+        module _ {s : Listing} (rule : RuleListed t r q s) where
+          pub way_after : WayReady after t way s
+          way_after = record {
+            A = the_tree.1.A;
+            leads = rw is_left at leads;
+            ready = record {
+              above = the_tree.1.above;
+              follows = the_tree.1.follows;
+              few = omega (arith, few, parts, so_far.counted, rule.counted);
+            };
+          }
+
+          -- TREE: the sentence and the derivation of the rule's tree are written
+          pub tree_listed : {u : Listing} → WayListed after t way s u → TreeListed t r p u
+          tree_listed last = record {
+            of_tree = λ u z.
+                let begins = rw (viewed_left (view_of t) z.rule) at leads in
+                let head = ((first.from z.A begins).by z.above z.follows).wrote in
+                let tail = ((last.from z.A begins).by z.above z.follows).wrote in
+                let middle = rule_written rule z.rule z.under z.opens in
+                wrote_as (sym (tokens_are z)) (sym (rules_are z)) (and_then head (and_then middle tail));
+          }

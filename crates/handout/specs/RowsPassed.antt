@@ -1,59 +1,55 @@
 -- For the private functions of answer: what is known on the way, row after row. Nobody has to believe this file; the promises do
 -- not cite it. Assumes nothing.
-use Rattle.std.specs.Prelude.{ℕ, ◌≤◌, ◌≡◌, List, length}
-use Rattle.answers.specs.GrammarRefusals.{GrammarRefusal}
-use Rattle.grammar.specs.Words.{Grammar, R, Are}
+use Rattle.std.specs.Prelude.{ℕ, ◌≤◌, ◌<◌, ◌≡◌, List, length, Option, Some, None, Result, Ok, Err}
+use Rattle.answers.specs.GrammarRefusals.{GrammarRefusal, number, place}
+use Rattle.answers.specs.Refusals.{number_of, place_of}
+use Rattle.answers.specs.declared.Refusal.{Refusal}
+use Rattle.answers.specs.declared.Refusal.TheVariants as refusal
+use Rattle.grammar.specs.Words.{R, Are}
 use Rattle.grammar.specs.Refusals.{Accepted, Lowest}
 use Rattle.grammar.specs.Rows.{GrammarRefused}
-use Rattle.grammar.specs.Terms.{limit}
-use Rattle.entries.specs.Table.{total_in}
-use Rattle.handout.specs.Answers.{answer, of_words, not_its_table}
+use Rattle.grammar.specs.Terms.{measure, limit}
+use Rattle.grammar.specs.Tree.{Tree, sentence, derivation}
+use Rattle.grammar.specs.Least.{TreeOf}
 use Rattle.handout.specs.Next.{Unused, Lent, NextPromise}
-use Rattle.handout.specs.Listing.{TableView}
+use Rattle.handout.specs.Listing.{grammar_of}
 use Rattle.handout.specs.TreeListing.{TreeFits}
 use Rattle.handout.specs.declared.NextAnswer.{NextAnswer}
-use Rattle.handout.specs.declared.answer.Decision.{Decision}
-use Rattle.handout.specs.declared.answer.Decision.TheVariants.{Answer, Write}
-use Rattle.handout.specs.declared.tree_lister.Request.{Request}
+use Rattle.handout.specs.declared.NextAnswer.TheVariants.{Refused, Finished}
+use Rattle.handout.specs.declared.tabled.Tabled.{Tabled}
+
+-- how a refusal is told
+abbrev pub told : Refusal → NextAnswer
+told x = Refused (number_of x) (place_of x)
 
 -- the table is none of a grammar's own: the words are refused, by 4, 5, 6 or 7, or else the table is, by 8
-pub data UpToEight (words : List ℕ) : NextAnswer → Type 0 where
-  words_refused : {x : GrammarRefusal} → GrammarRefused limit words x → UpToEight words (answer (of_words x))
-  table_refused : Are words (Accepted limit) → UpToEight words (answer not_its_table)
+pub data UpToEight (words : List ℕ) : Refusal → Type 0 where
+  words_refused : {x : GrammarRefusal} {y : Refusal} → GrammarRefused limit words x → number_of y ≡ number x → place_of y ≡ place x →
+      UpToEight words y
+  table_refused : Are words (Accepted limit) → UpToEight words refusal.NotItsTable
 
--- rows 4 to 8 are passed: the words are an accepted grammar's, its rules stand at these indexes, these are its N, its start and
--- its R, and the table is its own
-pub record PastEight (words places table : List ℕ) (n start rules : ℕ) : Type 0 where
-  pub g : Grammar
-  pub accepted : Accepted limit g
-  pub known : TableView words places table n g
-  pub starts_at : start ≡ g.start
-  pub all_rules : rules ≡ R g
+-- 9 is passed too, and r is the lowest unused rule
+pub record Wants (t : Tabled) (marks : List ℕ) (r : ℕ) : Type 0 where
+  pub marked : R (grammar_of t) ≤ length marks
+  pub target : Lowest (Unused (grammar_of t) marks) r
 
--- and so is 9, and the request is for the lowest unused rule, with its total
-pub record Requested (words places table marks : List ℕ) (q : Request) : Type 0 where
-  pub g : Grammar
-  pub accepted : Accepted limit g
-  pub known : TableView words places table q.n g
-  pub starts_at : q.start ≡ g.start
-  pub marked : R g ≤ length marks
-  pub target : Lowest (Unused g marks) q.target
-  pub total : q.total ≡ total_in q.n table q.target
+-- what is found before a word is written: an answer with which the buffers are kept, or a target, with room for its tree
+abbrev pub Decided : Tabled → Lent → Result (Option ℕ) Refusal → Type 0
+Decided t lent (Ok (Some r)) = Wants t lent.marks r × TreeFits t r (length lent.tokens) (length lent.rules)
+Decided t lent (Ok None) = NextPromise t.reading.now.words.now t.table.now lent Finished lent
+Decided t lent (Err x) = NextPromise t.reading.now.words.now t.table.now lent (told x) lent
 
--- what is found before a word is written: an answer with which the buffers are kept, or a request, with room for what is asked for
-pub data Decided (words places table : List ℕ) (before : Lent) : Decision → Type 0 where
-  says : {a : NextAnswer} → NextPromise words table before a before → Decided words places table before (Answer a)
-  writes : {q : Request} → Requested words places table before.marks q →
-      TreeFits words places table q.n q.start q.target before.tokens before.rules →
-      Decided words places table before (Write q)
+-- 3 and 10: what there is too little room for, of so many tokens and rule numbers
+pub data Short (tokens rules : ℕ) (sentence derivation : List ℕ) : Refusal → Type 0 where
+  short_sentence : tokens < length sentence → Short tokens rules sentence derivation (refusal.TooShort (length sentence))
+  short_derivation : length sentence ≤ tokens → rules < length derivation →
+      Short tokens rules sentence derivation (refusal.DerivationShort (length derivation))
 
--- of whichever buffers have so much room, where the request is for their target; and of whichever have these marks besides
-abbrev pub RoomDecided : List ℕ → List ℕ → List ℕ → Request → ℕ → ℕ → Decision → Type 0
-RoomDecided words places table q tokens numbers d =
-    (before : Lent) → Requested words places table before.marks q → length before.tokens ≡ tokens →
-    length before.rules ≡ numbers → Decided words places table before d
+pub record TreeShort (t : Tabled) (r tokens rules : ℕ) (x : Refusal) : Type 0 where
+  pub of_tree : (u : Tree (grammar_of t) (grammar_of t).start) → TreeOf measure (grammar_of t) r u →
+      Short tokens rules (sentence u) (derivation u) x
 
-abbrev pub DecidedOf : List ℕ → List ℕ → List ℕ → List ℕ → ℕ → ℕ → Decision → Type 0
-DecidedOf words places table marks tokens numbers d =
-    (before : Lent) → before.marks ≡ marks → length before.tokens ≡ tokens → length before.rules ≡ numbers →
-    Decided words places table before d
+-- whether there is room for the tree of rule r
+abbrev pub RoomTold : Tabled → ℕ → ℕ → ℕ → Result Unit Refusal → Type 0
+RoomTold t r tokens rules (Ok x) = TreeFits t r tokens rules
+RoomTold t r tokens rules (Err x) = TreeShort t r tokens rules x

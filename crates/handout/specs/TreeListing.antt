@@ -2,65 +2,45 @@
 -- write. Document 01: "The tree of rule r follows the context choices from the start to r's left side, puts r there, and opens
 -- every other nonterminal by its chosen rule."
 -- Nobody has to believe this file; the promises do not cite it. Assumes nothing.
-use Rattle.std.specs.Prelude.{ℕ, zero, suc, ◌+◌, ◌≤◌, ◌<◌, ◌≡◌, List, [], ◌∷◌, ◌++◌, length, get_or, take, drop}
-use Rattle.grammar.specs.Words.{Grammar, R}
+use Rattle.std.specs.Prelude.{ℕ, suc, ◌+◌, ◌≤◌, ◌<◌, ◌≡◌, List, [], ◌∷◌, ◌++◌, length, get_or, take, drop}
+use Rattle.grammar.specs.Words.{Grammar}
 use Rattle.grammar.specs.Tree.{Tree, Gap, here, past_leaf, past_child, Open, root, down}
 use Rattle.grammar.specs.Tree.{sentence, sentences, derivation, derivations}
-use Rattle.grammar.specs.Terms.{measure, limit}
+use Rattle.grammar.specs.Terms.{measure}
 use Rattle.grammar.specs.Least.{ChosenOpen, TreeOf}
-use Rattle.grammar.specs.Refusals.{Accepted}
-use Rattle.entries.specs.Table.{rule_in, place_in}
-use Rattle.handout.specs.declared.lister.Lengths.{Lengths}
-use Rattle.handout.specs.Listing.{TableView, sizes_by, right_of, RuleListing, Wrote, PartListed}
+use Rattle.entries.specs.Table.{rule_in, place_in, total_in}
+use Rattle.layout.specs.Sides as sides
+use Rattle.handout.specs.declared.tabled.Tabled.{Tabled}
+use Rattle.handout.specs.declared.listing.Listing.{Listing}
+use Rattle.handout.specs.Listing.{grammar_of, sizes_by, right_of, Few, NumberListed, Wrote}
 
--- A is no start, and has a place in its context rule
-pub record Beside (words places table : List ℕ) (n A : ℕ) (g : Grammar) : Type 0 where
-  pub known : TableView words places table n g
-  pub leaf : A < n
-  pub number : rule_in table A < R g
-  pub place : place_in table A < length (right_of words places (rule_in table A))
+-- A is a nonterminal other than the start: the table has its context rule and its place there
+pub record Inner (t : Tabled) (A : ℕ) : Type 0 where
+  pub nonterminal : A < t.reading.now.nonterminals
+  pub other : ¬ (A ≡ t.reading.now.start)
 
 -- the symbols before A's place in its context rule, and those after it
-abbrev pub front_of : List ℕ → List ℕ → List ℕ → ℕ → List ℕ
-front_of words places table A = take (place_in table A) (right_of words places (rule_in table A))
+abbrev pub front_of : Tabled → ℕ → List ℕ
+front_of t A = take (place_in t.table.now A) (right_of t (rule_in t.table.now A))
 
-abbrev pub back_of : List ℕ → List ℕ → List ℕ → ℕ → List ℕ
-back_of words places table A = drop (suc (place_in table A)) (right_of words places (rule_in table A))
-
--- the number of A's context rule and the symbols before the place can be listed; and those after it
-pub record FrontReady (words places table : List ℕ) (n A : ℕ) (past : Lengths) : Type 0 where
-  pub g : Grammar
-  pub beside : Beside words places table n A g
-  pub few : past.tokens + past.rules + (1 + sizes_by n table (front_of words places table A)) ≤ limit
-
-pub record BackReady (words places table : List ℕ) (n A : ℕ) (past : Lengths) : Type 0 where
-  pub g : Grammar
-  pub beside : Beside words places table n A g
-  pub few : past.tokens + past.rules + sizes_by n table (back_of words places table A) ≤ limit
+abbrev pub back_of : Tabled → ℕ → List ℕ
+back_of t A = drop (suc (place_in t.table.now A)) (right_of t (rule_in t.table.now A))
 
 -- the number and the symbols before the place are listed
-abbrev pub FrontListed : List ℕ → List ℕ → List ℕ → ℕ → ℕ → List ℕ → List ℕ → List ℕ → List ℕ → Lengths → Lengths → Type 0
-FrontListed words places table n A tokens tokens' rules rules' past so =
-    PartListed words places table n (λ g. RuleListing g (rule_in table A) (front_of words places table A))
-    (1 + sizes_by n table (front_of words places table A)) tokens tokens' rules rules' past so
+abbrev pub FrontListed : Tabled → ℕ → Listing → Listing → Type 0
+FrontListed t A past so = NumberListed t (rule_in t.table.now A) (front_of t A) past so
 
--- the left side of rule k; that of A's context rule, and the nonterminal so many steps up
-abbrev pub left_of : List ℕ → List ℕ → ℕ → ℕ
-left_of words places k = get_or words (get_or places k 0) 0
+-- the left side of rule k; and that of A's context rule
+abbrev pub left_of : Tabled → ℕ → ℕ
+left_of t k = sides.left_of t.reading.now k
 
-abbrev pub upper : List ℕ → List ℕ → List ℕ → ℕ → ℕ
-upper words places table A = left_of words places (rule_in table A)
+abbrev pub upper : Tabled → ℕ → ℕ
+upper t A = left_of t (rule_in t.table.now A)
 
-unfoldable pub climbed : List ℕ → List ℕ → List ℕ → ℕ → ℕ → ℕ
-climbed words places table A zero = A
-climbed words places table A (suc i) = upper words places table (climbed words places table A i)
-
--- the path holds the nonterminals from A up to below the start, which is so many steps up
-pub record PathOf (words places table : List ℕ) (start A : ℕ) (path : List ℕ) (steps : ℕ) : Type 0 where
-  pub short : steps ≤ length path
-  pub each : (i : ℕ) → i < steps → get_or path i 0 ≡ climbed words places table A i
-  pub other : (i : ℕ) → i < steps → ¬ (climbed words places table A i ≡ start)
-  pub ends : climbed words places table A steps ≡ start
+-- the path leads from A up to below B: A first, and after each the left side of its context rule; the start is not on it
+pub data Leads (t : Tabled) : ℕ → ℕ → List ℕ → Type 0 where
+  arrived : {A : ℕ} → Leads t A A []
+  up : {A B : ℕ} {w : List ℕ} → ¬ (A ≡ t.reading.now.start) → Leads t (upper t A) B w → Leads t A B (A ∷ w)
 
 -- the two sides of an open leaf
 pub data Side : Type 0 where
@@ -98,93 +78,45 @@ module _ {g : Grammar} where
   rules_on after (down k r x a) = gap_rules after a ++ rules_on after x
 
   -- its size by the table, which is no less than how many numbers are listed there
-  abbrev pub size_on : {A : ℕ} → ℕ → List ℕ → Side → Open g A → ℕ
-  size_on n table before root = 0
-  size_on n table before (down {i = i} {w = w} k r x a) = size_on n table before x + (1 + sizes_by n table (take i w))
-  size_on n table after root = 0
-  size_on n table after (down {i = i} {w = w} k r x a) = sizes_by n table (drop (suc i) w) + size_on n table after x
+  abbrev pub size_on : {A : ℕ} → Tabled → Side → Open g A → ℕ
+  size_on t before root = 0
+  size_on t before (down {i = i} {w = w} k r x a) = size_on t before x + (1 + sizes_by t (take i w))
+  size_on t after root = 0
+  size_on t after (down {i = i} {w = w} k r x a) = sizes_by t (drop (suc i) w) + size_on t after x
 
 -- the context choices lead from the start to A, and what lies on that side is little enough to count
-pub record SideReady (side : Side) (words places table : List ℕ) (n start A : ℕ) (past : Lengths) : Type 0 where
-  pub g : Grammar
-  pub known : TableView words places table n g
-  pub starts_at : start ≡ g.start
-  pub above : Open g A
-  pub follows : ChosenOpen measure g above
-  pub few : past.tokens + past.rules + size_on n table side above ≤ limit
+pub record SideReady (side : Side) (t : Tabled) (A : ℕ) (past : Listing) : Type 0 where
+  pub above : Open (grammar_of t) A
+  pub follows : ChosenOpen measure (grammar_of t) above
+  pub few : Few past (size_on t side above)
 
--- they lead so far, and the path has room for as many as there are nonterminals
-pub record ClimbReady (words places table : List ℕ) (start A : ℕ) (path : List ℕ) : Type 0 where
-  pub n : ℕ
-  pub g : Grammar
-  pub known : TableView words places table n g
-  pub starts_at : start ≡ g.start
-  pub above : Open g A
-  pub follows : ChosenOpen measure g above
-  pub long : n ≤ length path
-
--- the path is that of a nonterminal, and what lies on that side of it can be listed
-pub record WayReady (side : Side) (words places table : List ℕ) (n : ℕ) (path : List ℕ) (steps : ℕ) (past : Lengths) :
-    Type 0 where
-  pub start : ℕ
+-- the way leads up from a nonterminal, and what lies on that side of it can be listed
+pub record WayReady (side : Side) (t : Tabled) (way : List ℕ) (past : Listing) : Type 0 where
   pub A : ℕ
-  pub path_of : PathOf words places table start A path steps
-  pub ready : SideReady side words places table n start A past
+  pub leads : Leads t A t.reading.now.start way
+  pub ready : SideReady side t A past
 
--- what lies on that side of an open leaf is written, and the lengths grew by no more than its size
-pub record SideWrote {g : Grammar} {A : ℕ} (n : ℕ) (table : List ℕ) (side : Side) (above : Open g A)
-    (tokens tokens' rules rules' : List ℕ) (past so : Lengths) : Type 0 where
-  pub wrote : Wrote (tokens_on side above) (rules_on side above) tokens tokens' rules rules' past so
-  pub counted : so.tokens + so.rules ≤ past.tokens + past.rules + size_on n table side above
+-- what lies on that side of an open leaf is written, and no more than its size
+pub record SideWrote {g : Grammar} {A : ℕ} (t : Tabled) (side : Side) (above : Open g A) (past so : Listing) : Type 0 where
+  pub wrote : Wrote (tokens_on side above) (rules_on side above) past so
+  pub counted : so.tokens + so.rules ≤ past.tokens + past.rules + size_on t side above
 
--- it is listed, by whichever context choices
-abbrev pub SideListed : Side → List ℕ → List ℕ → List ℕ → ℕ → ℕ → ℕ → List ℕ → List ℕ → List ℕ → List ℕ → Lengths → Lengths →
-    Type 0
-SideListed side words places table n start A tokens tokens' rules rules' past so =
-    (g : Grammar) → TableView words places table n g → start ≡ g.start → (above : Open g A) → ChosenOpen measure g above →
-    SideWrote n table side above tokens tokens' rules rules' past so
+-- it is listed, by whichever context choices; and whichever nonterminal the way leads up from
+pub record SideListed (side : Side) (t : Tabled) (A : ℕ) (past so : Listing) : Type 0 where
+  pub by : (above : Open (grammar_of t) A) → ChosenOpen measure (grammar_of t) above → SideWrote t side above past so
 
--- whichever nonterminal the path leads up from
-abbrev pub WayListed : Side → List ℕ → List ℕ → List ℕ → ℕ → List ℕ → ℕ → List ℕ → List ℕ → List ℕ → List ℕ → Lengths → Lengths →
-    Type 0
-WayListed side words places table n path steps tokens tokens' rules rules' past so =
-    (start A : ℕ) → PathOf words places table start A path steps →
-    SideListed side words places table n start A tokens tokens' rules rules' past so
+pub record WayListed (side : Side) (t : Tabled) (way : List ℕ) (past so : Listing) : Type 0 where
+  pub from : (A : ℕ) → Leads t A t.reading.now.start way → SideListed side t A past so
 
--- the tree of a rule can be listed, and is
-pub record TreeReady (words places table : List ℕ) (n start r : ℕ) : Type 0 where
-  pub g : Grammar
-  pub known : TableView words places table n g
-  pub starts_at : start ≡ g.start
-  pub accepted : Accepted limit g
-  pub number : r < R g
+-- the total of rule k, by the table
+abbrev pub total_by : Tabled → ℕ → ℕ
+total_by t k = total_in t.reading.now.nonterminals t.table.now k
 
-abbrev pub none_so_far : Lengths
-none_so_far = record { tokens = 0; rules = 0 }
+-- the tree of rule k is listed; and there is room for so many tokens and rule numbers
+pub record TreeListed (t : Tabled) (k : ℕ) (past so : Listing) : Type 0 where
+  pub of_tree : (u : Tree (grammar_of t) (grammar_of t).start) → TreeOf measure (grammar_of t) k u →
+      Wrote (sentence u) (derivation u) past so
 
-abbrev pub TreeListed : List ℕ → List ℕ → List ℕ → ℕ → ℕ → ℕ → List ℕ → List ℕ → List ℕ → List ℕ → Lengths → Type 0
-TreeListed words places table n start r tokens tokens' rules rules' so =
-    (g : Grammar) → TableView words places table n g → start ≡ g.start → (t : Tree g g.start) → TreeOf measure g r t →
-    Wrote (sentence t) (derivation t) tokens tokens' rules rules' none_so_far so
-
--- the same by the path that leads up from the rule's left side
-pub record AlongReady (words places table : List ℕ) (n r : ℕ) (path : List ℕ) (steps : ℕ) : Type 0 where
-  pub start : ℕ
-  pub path_of : PathOf words places table start (left_of words places r) path steps
-  pub ready : TreeReady words places table n start r
-
-abbrev pub AlongListed : List ℕ → List ℕ → List ℕ → ℕ → ℕ → List ℕ → ℕ → List ℕ → List ℕ → List ℕ → List ℕ → Lengths → Type 0
-AlongListed words places table n r path steps tokens tokens' rules rules' so =
-    (start : ℕ) → PathOf words places table start (left_of words places r) path steps → TreeReady words places table n start r →
-    TreeListed words places table n start r tokens tokens' rules rules' so
-
-abbrev pub TreeCounted : List ℕ → List ℕ → List ℕ → ℕ → ℕ → ℕ → Lengths → Type 0
-TreeCounted words places table n start r so =
-    (g : Grammar) → TableView words places table n g → start ≡ g.start → (t : Tree g g.start) → TreeOf measure g r t →
-    (so.tokens ≡ length (sentence t)) × (so.rules ≡ length (derivation t))
-
--- there is room for it
-abbrev pub TreeFits : List ℕ → List ℕ → List ℕ → ℕ → ℕ → ℕ → List ℕ → List ℕ → Type 0
-TreeFits words places table n start r tokens rules =
-    (g : Grammar) → TableView words places table n g → start ≡ g.start → (t : Tree g g.start) → TreeOf measure g r t →
-    (length (sentence t) ≤ length tokens) × (length (derivation t) ≤ length rules)
+pub record TreeFits (t : Tabled) (k tokens rules : ℕ) : Type 0 where
+  pub of_tree : (u : Tree (grammar_of t) (grammar_of t).start) → TreeOf measure (grammar_of t) k u →
+      (length (sentence u) ≤ tokens) × (length (derivation u) ≤ rules)

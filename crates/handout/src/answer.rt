@@ -1,188 +1,119 @@
 // What `next` answers once the table is tested: what is decided before a word is written, and then the writing. Deciding takes the
 // buffers' marks and lengths alone.
-ghost use Rattle.std.specs.Prelude.{◌≡◌, true, ◌≤◌};
-ghost use Rattle.table_test.specs.Promise.{TestPromise};
+ghost use Rattle.std.specs.Prelude.{◌<◌, length};
 ghost use Rattle.handout.specs.Next.{NextPromise};
-ghost use Rattle.handout.specs.RowsPassed.{UpToEight, PastEight, Requested, RoomDecided, DecidedOf};
-ghost use Rattle.handout.specs.TreeListing.{TreeReady, TreeFits};
+ghost use Rattle.handout.specs.RowsPassed.{UpToEight, Decided, Wants, RoomTold};
+ghost use Rattle.handout.specs.TreeListing.{TreeFits};
 
-use crate::tree_lister::{Request, list_tree};
-use crate::{DERIVATION_SHORT, FEW_MARKS, NOT_ITS_TABLE, NextAnswer};
+use crate::NextAnswer;
+use crate::listing::Listing;
+use crate::tabled::Tabled;
+use crate::tree_lister::list_tree;
+use answers::Refusal;
 use cells::narrow;
 use entries::total;
-use marks::{LowestUnused, first_unused, mark_rules};
-use table_test::TableTest;
+use marks::{first_unused, mark_rules};
 use tables::TableAnswer;
 
-// What is found before a word is written: an answer that writes nothing, or the request for the target, for which there is room.
-#[derive(Drop)]
-pub enum Decision {
-    Answer(NextAnswer),
-    Write(Request),
-}
-
-// Of words, a table and what the test found of them, and of buffers with these marks and room for so many tokens and numbers.
-pub fn decide(
-    words: &[u16],
-    places: &[u16],
-    found: TableTest,
-    table: &[u16],
-    marks: &[u8],
-    tokens: usize,
-    numbers: usize,
-) -> Decision
-    requires { TestPromise words.now table.now (record { answer = found; places = places.now }) }
-    ensures { DecidedOf words.now places.now table.now marks.now
-        tokens numbers result }
-{
-    match found {
-        TableTest::NotIts => Decision::Answer(without_table(words)),
-        TableTest::Its {
-            nonterminals,
-            start,
-            rules,
-        } => with_table(
-            words,
-            places,
-            narrow(nonterminals),
-            narrow(start),
-            rules,
-            table,
-            marks,
-            tokens,
-            numbers,
-        ),
-    }
-}
-
-// Where the table is not the grammar's own. A table is worked out with no room to write it, for 4, 5, 6 and 7; that it is refused
-// by 3 says that they are passed, and so does Done, which cannot be.
-fn without_table(words: &[u16]) -> NextAnswer
+// The refusal where the table is not the grammar's own. A table is worked out with no room to write it, for 4, 5, 6 and 7; that it is
+// refused by 3 says that they are passed, and so does Done, which cannot be. The numbers are those of document 01's answer: crate tables
+// has no other public call, so that they are turned back into refusals here.
+#[tactic(auto, using(crate::proofs::NextOutcomes::by_row, crate::proofs::NextOutcomes::by_8))]
+pub fn without_table(words: &[u16]) -> Refusal
     ensures { UpToEight words.now result }
 {
-    let mut none = [0u16; 0];
-    match tables::tables(words, &mut none) {
-        TableAnswer::Done(_) => NextAnswer::Refused {
-            number: NOT_ITS_TABLE,
-            place: 0,
-        },
-        TableAnswer::Refused { number, place } => {
-            if number == answers::TOO_SHORT {
-                NextAnswer::Refused {
-                    number: NOT_ITS_TABLE,
-                    place: 0,
-                }
-            } else {
-                NextAnswer::Refused { number, place }
-            }
-        }
+    match tables::tables(words, &mut []) {
+        TableAnswer::Refused { number: 4, place } => Refusal::BrokenLayout { place },
+        TableAnswer::Refused { number: 5, place } => Refusal::NoTree { nonterminal: place },
+        TableAnswer::Refused { number: 6, place } => Refusal::Unreached { nonterminal: place },
+        TableAnswer::Refused { number: 7, place } => Refusal::Oversize { rule: place },
+        _ => Refusal::NotItsTable,
     }
 }
 
-// With the grammar's own table: 9, Finished, or what the target comes to.
-fn with_table(
-    words: &[u16],
-    places: &[u16],
-    n: u16,
-    start: u16,
-    rules: usize,
-    table: &[u16],
+// With the grammar's own table, before a word is written: the target, for whose sentence and derivation there is room, or none where
+// no rule is unused, or 9, 3 or 10.
+#[tactic(auto, using(crate::proofs::NextOutcomes::refuses_9, crate::proofs::NextOutcomes::finishes, crate::proofs::NextOutcomes::wants, crate::proofs::NextOutcomes::refuses_room, answers::proofs::HandedOn::handed_on))]
+pub fn decide(
+    tabled: &Tabled,
     marks: &[u8],
-    tokens: usize,
-    numbers: usize,
-) -> Decision
-    requires { PastEight words.now places.now table.now n start rules }
-    ensures { DecidedOf words.now places.now table.now marks.now
-        tokens numbers result }
+    sentence: &[u16],
+    derivation: &[u16],
+) -> Result<Option<u16>, Refusal>
+    ensures { Decided tabled.now
+        (record { marks = marks.now; tokens = sentence.now; rules = derivation.now }) result }
 {
+    let rules = usize::from(tabled.reading.rules);
     if marks.len() < rules {
-        return Decision::Answer(NextAnswer::Refused {
-            number: FEW_MARKS,
-            place: rules,
-        });
+        return Err(Refusal::FewMarks { rules });
     }
-    match first_unused(marks, rules) {
-        LowestUnused::None => Decision::Answer(NextAnswer::Finished),
-        LowestUnused::At(target) => {
-            let request = Request {
-                n,
-                start,
-                target,
-                total: total(table, n, narrow(target)),
-            };
-            decide_room(words, places, table, request, tokens, numbers)
-        }
-    }
+    let Some(lowest) = first_unused(marks, rules) else {
+        return Ok(None);
+    };
+    let target = narrow(lowest);
+    find_room(tabled, target, sentence.len(), derivation.len())?;
+    Ok(Some(target))
 }
 
 // Where both buffers have room for as many numbers as the total says, there is room for the sentence and for the derivation;
 // otherwise they are counted first, so that 3 and 10 are known before a word is written.
-fn decide_room(
-    words: &[u16],
-    places: &[u16],
-    table: &[u16],
-    request: Request,
-    tokens: usize,
-    numbers: usize,
-) -> Decision
-    requires { TreeReady words.now places.now table.now request.n request.start request.target }
-    ensures { RoomDecided words.now places.now table.now request tokens numbers result }
+#[tactic(auto, using(crate::proofs::NextOutcomes::fits_total, crate::proofs::NextOutcomes::short_tokens, crate::proofs::NextOutcomes::short_rules, crate::proofs::NextOutcomes::fits_counted, crate::proofs::SizesByTable::total_few))]
+fn find_room(tabled: &Tabled, target: u16, tokens: usize, rules: usize) -> Result<(), Refusal>
+    requires { target < tabled.now.reading.now.rules }
+    ensures { RoomTold tabled.now target tokens rules result }
 {
-    if both_within(request.total, tokens, numbers) {
-        return Decision::Write(request);
+    let total = total(tabled.table, tabled.reading.nonterminals, target);
+    if total <= tokens.min(rules) {
+        return Ok(());
     }
-    let mut no_tokens = [0u16; 0];
-    let mut no_rules = [0u16; 0];
-    let counted = list_tree(words, places, table, request, &mut no_tokens, &mut no_rules);
+    let mut counted = Listing {
+        sentence: &mut [],
+        derivation: &mut [],
+        tokens: 0,
+        rules: 0,
+    };
+    list_tree(tabled, target, &mut counted);
     if tokens < counted.tokens {
-        return Decision::Answer(NextAnswer::Refused {
-            number: answers::TOO_SHORT,
-            place: counted.tokens,
+        return Err(Refusal::TooShort {
+            needed: counted.tokens,
         });
     }
-    if numbers < counted.rules {
-        return Decision::Answer(NextAnswer::Refused {
-            number: DERIVATION_SHORT,
-            place: counted.rules,
+    if rules < counted.rules {
+        return Err(Refusal::DerivationShort {
+            needed: counted.rules,
         });
     }
-    Decision::Write(request)
-}
-
-// Whether both have room for as many.
-fn both_within(total: usize, tokens: usize, rules: usize) -> bool
-    ensures { result ≡ true → (total ≤ tokens) × (total ≤ rules) }
-{
-    if tokens < total {
-        return false;
-    }
-    total <= rules
+    Ok(())
 }
 
 // The sentence, the derivation and the marks, for which there is room.
+#[tactic(auto, using(crate::proofs::NextOutcomes::below, crate::proofs::SizesByTable::total_few))]
 pub fn write_out(
-    words: &[u16],
-    places: &[u16],
-    table: &[u16],
-    request: Request,
+    tabled: &Tabled,
+    target: u16,
     marks: &mut [u8],
     sentence: &mut [u16],
     derivation: &mut [u16],
 ) -> NextAnswer
-    requires { Requested words.now places.now table.now marks.old request ×
-        TreeFits words.now places.now table.now request.n request.start request.target
-        sentence.old derivation.old }
-    ensures { NextPromise words.now table.now
+    requires wanted { Wants tabled.now marks.old target }
+    requires fits { TreeFits tabled.now target (length sentence.old) (length derivation.old) }
+    ensures { NextPromise tabled.now.reading.now.words.now tabled.now.table.now
         (record { marks = marks.old; tokens = sentence.old; rules = derivation.old }) result
         (record { marks = marks.new; tokens = sentence.new; rules = derivation.new }) }
 {
-    let listed = list_tree(words, places, table, request, sentence, derivation);
-    let tokens = listed.tokens;
-    let numbers = listed.rules;
-    mark_rules(derivation, numbers, marks);
+    let mut listing = Listing {
+        sentence,
+        derivation,
+        tokens: 0,
+        rules: 0,
+    };
+    list_tree(tabled, target, &mut listing);
+    let tokens = listing.tokens;
+    let rules = listing.rules;
+    mark_rules(derivation, rules, marks);
     NextAnswer::Next {
-        target: request.target,
+        target: usize::from(target),
         tokens,
-        rules: numbers,
+        rules,
     }
 }

@@ -4,21 +4,18 @@
 
 mod answer;
 mod lister;
+mod listing;
+mod tabled;
 mod tree_lister;
 
 ghost use Rattle.handout.specs.Next.{Lent, NextPromise};
 
-use answer::Decision;
-
-// The numbers of the refusals that only `next` gives.
-pub const NOT_ITS_TABLE: u16 = 8;
-
-pub const FEW_MARKS: u16 = 9;
-
-pub const DERIVATION_SHORT: u16 = 10;
+use answers::Refusal;
+use tabled::Tabled;
 
 // What `next` answers: the target and both lengths written, or that no rule is unused, or the refusal's number and place.
-#[derive(Clone, Copy)]
+// Document 01 names this form: an enum for each call family, with a refusal's number and place.
+#[derive(Clone, Copy, Debug, PartialEq, Eq)]
 pub enum NextAnswer {
     Next {
         target: usize,
@@ -30,6 +27,20 @@ pub enum NextAnswer {
         number: u16,
         place: usize,
     },
+}
+
+impl From<Refusal> for NextAnswer {
+    ghost use Rattle.std.specs.Prelude.{◌≡◌};
+    ghost use Rattle.handout.specs.RowsPassed.{told};
+
+    ghost from_gives = { λ refusal answer. answer ≡ told refusal };
+
+    fn from(refusal: Refusal) -> NextAnswer {
+        NextAnswer::Refused {
+            number: refusal.number(),
+            place: refusal.place(),
+        }
+    }
 }
 
 // Hands out the sentence of the lowest unused rule and its derivation, into the fronts of sentence and derivation, and sets the
@@ -45,27 +56,16 @@ pub fn next(
         (record { marks = marks.old; tokens = sentence.old; rules = derivation.old }) result
         (record { marks = marks.new; tokens = sentence.new; rules = derivation.new }) }
 {
-    let testing = table_test::test(words, table);
-    let found = testing.answer;
-    let decision = answer::decide(
-        words,
-        &testing.places,
-        found,
+    let Some(reading) = table_test::test(words, table) else {
+        return NextAnswer::from(answer::without_table(words));
+    };
+    let tabled = Tabled {
+        reading: &reading,
         table,
-        marks,
-        sentence.len(),
-        derivation.len(),
-    );
-    match decision {
-        Decision::Answer(answer) => answer,
-        Decision::Write(request) => answer::write_out(
-            words,
-            &testing.places,
-            table,
-            request,
-            marks,
-            sentence,
-            derivation,
-        ),
+    };
+    match answer::decide(&tabled, marks, sentence, derivation) {
+        Ok(Some(target)) => answer::write_out(&tabled, target, marks, sentence, derivation),
+        Ok(None) => NextAnswer::Finished,
+        Err(refusal) => NextAnswer::from(refusal),
     }
 }

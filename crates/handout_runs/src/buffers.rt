@@ -10,10 +10,9 @@ pub const MOST_NUMBERS: usize = 5000;
 // A longer list is printed as its checksum.
 const LONG: usize = 40;
 
-// A length, and as many numbers of the buffer; of more than 40 the checksum.
-pub fn print_list(buffer: &[u16], length: usize) {
-    print::number(length);
-    let list = cases::front(buffer, length);
+// How many numbers a list has, and then they; of more than 40 the checksum.
+pub fn print_list(list: &[u16]) {
+    print::number(list.len());
     if LONG < list.len() {
         print::text(b" sum");
         print::number(checksum(list));
@@ -24,15 +23,7 @@ pub fn print_list(buffer: &[u16], length: usize) {
 
 // What the numbers are as digits to the base 31, modulo the prime 1,000,003.
 fn checksum(list: &[u16]) -> usize {
-    let mut sum = 0;
-    let mut i = 0;
-    while i < list.len() {
-        sum = with_digit(sum, list[i]);
-        i += 1;
-    }
-    sum
-}
-
-fn with_digit(sum: usize, digit: u16) -> usize {
-    (sum % 1000003 * 31 + cases::wide(digit)) % 1000003
+    list.iter().fold(0, |sum, digit| {
+        (sum % 1000003 * 31 + usize::from(*digit)) % 1000003
+    })
 }

@@ -10,25 +10,19 @@ mod replays;
 
 fn main() {
     let mut text = [0; cases::MOST_TEXT];
-    let mut rest = cases::read(&mut text);
-    while 0 < rest.len() {
-        run(cases::first_case(rest));
-        let later = cases::later_lines(rest);
-        rest = later;
+    for case in cases::each(cases::read(&mut text)) {
+        run(case);
     }
 }
 
 // The first letter of a case tells the call: replay, next, or a whole night of next.
 fn run(case: &[u8]) {
-    if case.len() == 0 {
-        return;
-    }
     print::text(cases::before(case, b':'));
     print::text(b":");
-    match case[0] {
-        b'r' => replays::replay(case),
-        b'n' => nexts::next(case),
-        b'w' => nights::night(case),
+    match case {
+        [b'r', ..] => replays::replay(case),
+        [b'n', ..] => nexts::next(case),
+        [b'w', ..] => nights::night(case),
         _ => print::text(b" unknown"),
     }
     print::text(b"\n");

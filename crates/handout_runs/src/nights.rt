@@ -10,12 +10,11 @@ const MOST_RULES: usize = 256;
 
 pub fn night(case: &[u8]) {
     let mut words = [0; MOST_WORDS];
-    let count = cases::numbers(cases::given(case), &mut words);
-    let given = cases::front(&words, count);
+    let words = cases::numbers(cases::given(case), &mut words);
     let mut table = [UNTOUCHED; MOST_TABLE];
-    tables::tables(given, &mut table);
+    tables::tables(words, &mut table);
     let mut marks = [0; MOST_RULES];
-    let sentences = hand_out_all(given, &table, &mut marks);
+    let sentences = hand_out_all(words, &table, &mut marks);
     print::text(b", sentences");
     print::number(sentences);
     print::text(b", marks");
@@ -24,15 +23,13 @@ pub fn night(case: &[u8]) {
 
 // Hands out sentences as long as there are any; one more than there can be rules would be a mistake. The answer is how many.
 fn hand_out_all(words: &[u16], table: &[u16], marks: &mut [u8]) -> usize {
-    let mut sentences = 0;
-    while sentences <= MOST_RULES {
+    for sentences in 0..=MOST_RULES {
         print::text(b"\n");
         if !hand_out(words, table, marks) {
             return sentences;
         }
-        sentences += 1;
     }
-    sentences
+    MOST_RULES + 1
 }
 
 // Whether a sentence was handed out.
@@ -46,9 +43,10 @@ fn hand_out(words: &[u16], table: &[u16], marks: &mut [u8]) -> bool {
             rules,
         } => {
             print::number(target);
-            buffers::print_list(&sentence, tokens);
-            buffers::print_list(&derivation, rules);
-            print_again(words, cases::front(&derivation, rules), &sentence);
+            let derivation = cases::front(&derivation, rules);
+            buffers::print_list(cases::front(&sentence, tokens));
+            buffers::print_list(derivation);
+            print_again(words, derivation, &sentence);
             true
         }
         NextAnswer::Finished => {
@@ -67,7 +65,7 @@ fn print_again(words: &[u16], derivation: &[u16], sentence: &[u16]) {
     let mut again = [UNTOUCHED; MOST_NUMBERS];
     match replay::replay(words, derivation, &mut again) {
         ReplayAnswer::Done(_) => {
-            if cases::same(&again, sentence) {
+            if again.as_slice() == sentence {
                 print::text(b" again");
             } else {
                 print::text(b" another");
@@ -79,13 +77,5 @@ fn print_again(words: &[u16], derivation: &[u16], sentence: &[u16]) {
 
 // How many marks are 1.
 fn used(marks: &[u8]) -> usize {
-    let mut count = 0;
-    let mut i = 0;
-    while i < marks.len() {
-        if marks[i] == 1 {
-            count += 1;
-        }
-        i += 1;
-    }
-    count
+    marks.iter().filter(|mark| **mark == 1).count()
 }

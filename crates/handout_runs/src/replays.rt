@@ -9,36 +9,26 @@ const MOST_SENTENCE: usize = 131073;
 
 pub fn replay(case: &[u8]) {
     let mut words = [0; MOST_WORDS];
-    let word_count = cases::numbers(cases::given(case), &mut words);
+    let words = cases::numbers(cases::given(case), &mut words);
     let mut list = [0; MOST_NUMBERS];
-    let list_count = cases::numbers(cases::wanted(case), &mut list);
+    let list = cases::numbers(cases::wanted(case), &mut list);
     let mut sentence = [UNTOUCHED; MOST_SENTENCE];
-    lend(
-        cases::front(&words, word_count),
-        cases::front(&list, list_count),
-        &mut sentence,
-        room(case),
-    );
+    run(words, list, cases::front_mut(&mut sentence, room(case)));
 }
 
 // The room is written in two numbers, thousands and the rest.
 fn room(case: &[u8]) -> usize {
     let mut numbers = [0; 2];
     cases::numbers(cases::before(case, b':'), &mut numbers);
-    cases::wide(numbers[0]) * 1000 + cases::wide(numbers[1])
-}
-
-// Lends the front of sentence.
-fn lend(words: &[u16], list: &[u16], sentence: &mut [u16], room: usize) {
-    let part = cases::least(room, sentence.len());
-    run(words, list, &mut sentence[0..part]);
+    let [thousands, rest] = numbers;
+    usize::from(thousands) * 1000 + usize::from(rest)
 }
 
 fn run(words: &[u16], list: &[u16], sentence: &mut [u16]) {
     match replay::replay(words, list, sentence) {
         ReplayAnswer::Done(tokens) => {
             print::text(b" done");
-            buffers::print_list(sentence, tokens);
+            buffers::print_list(cases::front(sentence, tokens));
             print::kept(cases::untouched(sentence, tokens));
         }
         ReplayAnswer::Refused { number, place } => {

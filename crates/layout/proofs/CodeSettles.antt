@@ -5,22 +5,22 @@ use Prim.Native.Nat.{ℕ}
 use lib.ListN.{get_or}
 use denote.Ref.{Bor}
 use Rattle.grammar.specs.Words.{layout}
-use Rattle.layout.specs.Judge.{answer_of, places_of}
-use Rattle.layout.specs.Walk.{WalkPlace, walk_start, step_at, walk_at, taken_from}
-use Rattle.layout.specs.declared.judge.LayoutAnswer.{LayoutAnswer}
-use Rattle.layout.specs.declared.judge.Reading.{Reading}
-use Rattle.layout.specs.declared.walk.Step.{Step}
+use Rattle.layout.specs.Judge.{answer_of}
+use Rattle.layout.specs.Walk.{WalkPlace, Taken, walk_start, step_at, walk_at, taken_from}
+use Rattle.std.specs.Prelude.{Option, Result}
+use Rattle.layout.specs.declared.judge.Shape.{Shape}
+use Rattle.layout.specs.declared.judge.Fault.{Fault}
+use Rattle.layout.specs.declared.walk.RuleSpan.{RuleSpan}
 use Rattle.layout.specs.declared.walk.RuleWalk.{RuleWalk}
-use Rattle.layout.specs.declared.walk.Taken.{Taken}
 
-pub judge_settles : (ws : List ℕ) {r s : LayoutAnswer} → r ≡ answer_of (layout ws) → s ≡ answer_of (layout ws) → r ≡ s
+pub judge_settles : (ws : List ℕ) {r s : Result Shape Fault} → r ≡ answer_of (layout ws) → s ≡ answer_of (layout ws) → r ≡ s
 judge_settles ws p q = p ∙ sym q
 
 pub walk_start_settles : (words : Bor (List ℕ)) {r s : RuleWalk} → r ≡ walk_at words walk_start → s ≡ walk_at words walk_start → r ≡ s
 walk_start_settles words p q = p ∙ sym q
 
 -- of `stands_at` and of `rule_from`
-pub walk_step_settles : (ws : List ℕ) (v : WalkPlace) {r s : Step} → r ≡ step_at ws v → s ≡ step_at ws v → r ≡ s
+pub walk_step_settles : (ws : List ℕ) (v : WalkPlace) {r s : Option RuleSpan} → r ≡ step_at ws v → s ≡ step_at ws v → r ≡ s
 walk_step_settles ws v p q = p ∙ sym q
 
 pub walk_next_settles : (w : RuleWalk) {r s : Taken} → r ≡ taken_from w → s ≡ taken_from w → r ≡ s
@@ -28,11 +28,6 @@ walk_next_settles w p q = p ∙ sym q
 
 pub word_settles : (ws : List ℕ) (i : ℕ) {r s : ℕ} → r ≡ get_or ws i 0 → s ≡ get_or ws i 0 → r ≡ s
 word_settles ws i p q = p ∙ sym q
-
--- the whole of what is read
-pub read_settles : (ws : List ℕ) {r s : Reading} → r.answer ≡ answer_of (layout ws) → r.places ≡ places_of (layout ws) →
-    s.answer ≡ answer_of (layout ws) → s.places ≡ places_of (layout ws) → r ≡ s
-read_settles ws p e q f = λ i. record { answer = (p ∙ sym q) i; places = (e ∙ sym f) i }
 
 pub index_settles : (places : List ℕ) (k : ℕ) {r s : ℕ} → r ≡ get_or places k 0 → s ≡ get_or places k 0 → r ≡ s
 index_settles places k p q = p ∙ sym q

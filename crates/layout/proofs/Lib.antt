@@ -14,6 +14,9 @@ pub mod PlacesNoted
 pub mod RulesInView
 pub mod RulesInside
 pub mod WordsRead
+pub mod ReadingsSame
+pub mod ReadingMade
+pub mod ReadingBounds
 -- The final statements.
 pub mod CodeSettles
 pub mod Main

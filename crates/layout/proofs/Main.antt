@@ -6,24 +6,27 @@ use mathlib.Core.Logic.{◌↔◌}
 use mathlib.Core.List.{List}
 use lib.ListN.{get_or}
 use denote.Ref.{Bor}
+use Rattle.std.specs.Prelude.{Option, Result, Ok, Err}
 use Rattle.grammar.specs.Words.{Grammar, RuleAt, place_of, layout, reads, FaultAt}
-use Rattle.layout.specs.Judge.{answer_of, places_of, WordsOf}
-use Rattle.layout.specs.Walk.{WalkPlace, walk_start, step_at, walk_at, taken_from}
+use Rattle.layout.specs.Judge.{shape, fault, answer_of, places_of, WordsOf}
+use Rattle.layout.specs.Walk.{WalkPlace, Taken, walk_start, step_at, walk_at, taken_from}
 use Rattle.layout.specs.WalkOrder.{HandsOut, NextHandsOut}
 use Rattle.layout.specs.Rules.{right_at}
-use Rattle.layout.specs.declared.judge.LayoutAnswer.{LayoutAnswer}
-use Rattle.layout.specs.declared.judge.LayoutAnswer.TheVariants as answer
-use Rattle.layout.specs.declared.judge.Reading.{Reading}
-use Rattle.layout.specs.declared.walk.Step.{Step}
+use Rattle.layout.specs.Read.{ReadOf}
+use Rattle.layout.specs.declared.judge.Shape.{Shape}
+use Rattle.layout.specs.declared.judge.Fault.{Fault}
+use Rattle.layout.specs.declared.reading.Reading.{Reading}
+use Rattle.layout.specs.declared.walk.RuleSpan.{RuleSpan}
 use Rattle.layout.specs.declared.walk.RuleWalk.{RuleWalk}
-use Rattle.layout.specs.declared.walk.Taken.{Taken}
 use Rattle.layout.proofs.JudgeExact as JudgeExact
 use Rattle.layout.proofs.WalkInOrder as WalkInOrder
 use Rattle.layout.proofs.RulesByNumber as RulesByNumber
 use Rattle.layout.proofs.CodeSettles as CodeSettles
+use Rattle.layout.proofs.ReadingsSame as ReadingsSame
+use Rattle.layout.proofs.ReadingMade as ReadingMade
 
 -- Each promise settles its answer, that of `read` where the rules stand too.
-pub judge_settles : (ws : List ℕ) {r s : LayoutAnswer} → r ≡ answer_of (layout ws) → s ≡ answer_of (layout ws) → r ≡ s
+pub judge_settles : (ws : List ℕ) {r s : Result Shape Fault} → r ≡ answer_of (layout ws) → s ≡ answer_of (layout ws) → r ≡ s
 judge_settles = CodeSettles.judge_settles
 
 pub word_settles : (ws : List ℕ) (i : ℕ) {r s : ℕ} → r ≡ get_or ws i 0 → s ≡ get_or ws i 0 → r ≡ s
@@ -32,15 +35,23 @@ word_settles = CodeSettles.word_settles
 pub walk_start_settles : (words : Bor (List ℕ)) {r s : RuleWalk} → r ≡ walk_at words walk_start → s ≡ walk_at words walk_start → r ≡ s
 walk_start_settles = CodeSettles.walk_start_settles
 
-pub walk_step_settles : (ws : List ℕ) (v : WalkPlace) {r s : Step} → r ≡ step_at ws v → s ≡ step_at ws v → r ≡ s
+pub walk_step_settles : (ws : List ℕ) (v : WalkPlace) {r s : Option RuleSpan} → r ≡ step_at ws v → s ≡ step_at ws v → r ≡ s
 walk_step_settles = CodeSettles.walk_step_settles
 
 pub walk_next_settles : (w : RuleWalk) {r s : Taken} → r ≡ taken_from w → s ≡ taken_from w → r ≡ s
 walk_next_settles = CodeSettles.walk_next_settles
 
-pub read_settles : (ws : List ℕ) {r s : Reading} → r.answer ≡ answer_of (layout ws) → r.places ≡ places_of (layout ws) →
-    s.answer ≡ answer_of (layout ws) → s.places ≡ places_of (layout ws) → r ≡ s
-read_settles = CodeSettles.read_settles
+pub read_settles : (words : Bor (List ℕ)) {r s : Result Reading Fault} → ReadOf words r → ReadOf words s → r ≡ s
+read_settles = ReadingsSame.read_settles
+
+-- A reading of words says what the judge answers of them, and where the rules stand.
+pub read_answers : (words : Bor (List ℕ)) (v : Reading) → ReadOf words (Ok v) →
+    (Ok (shape v.nonterminals v.terminals v.start v.rules) ≡ answer_of (layout words.now)) × (v.places ≡ places_of (layout words.now))
+read_answers = ReadingsSame.read_answers
+
+-- That of `read` allows an outcome for any words.
+pub read_met : (words : Bor (List ℕ)) → (r : Result Reading Fault) × ReadOf words r
+read_met = ReadingMade.read_met
 
 pub index_settles : (places : List ℕ) (k : ℕ) {r s : ℕ} → r ≡ get_or places k 0 → s ≡ get_or places k 0 → r ≡ s
 index_settles = CodeSettles.index_settles
@@ -48,12 +59,12 @@ index_settles = CodeSettles.index_settles
 pub right_settles : (ws : List ℕ) (at : ℕ) {r s : List ℕ} → r ≡ right_at ws at → s ≡ right_at ws at → r ≡ s
 right_settles = RulesByNumber.right_settles
 
--- The judge says Fault exactly at the first offending word or the early end, and Grammar exactly of a grammar's words.
-pub judge_fault_exact : (ws : List ℕ) {r : LayoutAnswer} → r ≡ answer_of (layout ws) → (p : ℕ) → (r ≡ answer.Fault p) ↔ FaultAt ws p
+-- The judge answers Err exactly at the first offending word or the early end, and Ok exactly of a grammar's words.
+pub judge_fault_exact : (ws : List ℕ) {r : Result Shape Fault} → r ≡ answer_of (layout ws) → (p : ℕ) → (r ≡ Err (fault p)) ↔ FaultAt ws p
 judge_fault_exact ws e = JudgeExact.judge_fault_exact ws e
 
-pub judge_grammar_exact : (ws : List ℕ) {r : LayoutAnswer} → r ≡ answer_of (layout ws) → (N T S n : ℕ) →
-    (r ≡ answer.Grammar N T S n) ↔ WordsOf ws N T S n
+pub judge_grammar_exact : (ws : List ℕ) {r : Result Shape Fault} → r ≡ answer_of (layout ws) → (N T S n : ℕ) →
+    (r ≡ Ok (shape N T S n)) ↔ WordsOf ws N T S n
 judge_grammar_exact ws e = JudgeExact.judge_grammar_exact ws e
 
 -- Over a grammar's words the walk hands out its rules in order and then ends, place by place and by `next`; what `read` notes

@@ -11,9 +11,8 @@ use borrow.Author.Tests.{lt-ltb, le-ltb, le-leb, lt-leb}
 use Rattle.grammar.specs.Words.{Rule, Judged, reads, faults, test, Body, body, no_symbol, with_symbol, with_left}
 use Rattle.grammar.specs.Words.{lefts, counts, symbols}
 use Rattle.layout.specs.Walk.{count_at}
-use Rattle.layout.specs.JudgeParts.{number_of, number_after, more, rights, Symbols, SymbolsEnd, Ruled, RuleEnds}
-use Rattle.layout.specs.declared.judge.Part.{Part}
-use Rattle.layout.specs.declared.judge.Part.TheVariants.{Fit, Fault}
+use Rattle.layout.specs.JudgeParts.{Part, number_of, number_after, more, rights, Symbols, SymbolsEnd, Ruled, RuleEnds}
+use Rattle.std.specs.Prelude.{Ok, Err}
 
 number_no_symbol : (r : Judged (List Rule)) → number_after (no_symbol r) ≡ number_of r
 number_no_symbol (reads rs) = refl
@@ -132,13 +131,13 @@ module _ (ws : List ℕ) (N T : ℕ) where
   -- so the rule is what its symbols are
   pub rule_judged : (at k : ℕ) → at + 2 ≤ length ws → get_or ws at 0 < N → k ≡ get_or ws (at + 1) 0 → k ≤ 32 →
       (r : Part) → Symbols ws N T (at + 2) k r → Ruled ws N T at r
-  rule_judged at k l h q few (Fit next) s = λ room.
+  rule_judged at k l h q few (Ok next) s = λ room.
       ap number_of (rule_goes_on at k l h q few room)
       ∙ number_with_left (get_or ws at 0) (rights (drop (at + 2) ws) k (at + 2) room N T)
       ∙ ap (more 1) (s room)
-  rule_judged at k l h q few (Fault p) s = λ room. rule_goes_on at k l h q few room ∙ ap (with_left (get_or ws at 0)) (s room)
+  rule_judged at k l h q few (Err e) s = λ room. rule_goes_on at k l h q few room ∙ ap (with_left (get_or ws at 0)) (s room)
 
 -- and it ends where they do
 pub rule_ends : (ws : List ℕ) (at k : ℕ) → k ≡ count_at ws at → k ≤ 32 → (r : Part) → SymbolsEnd ws (at + 2) k r → RuleEnds ws at r
-rule_ends ws at k e few (Fit next) s = (omega (arith, s.0), s.1, omega (arith, s.0))
-rule_ends ws at k e few (Fault p) s = tt
+rule_ends ws at k e few (Ok next) s = (omega (arith, s.0), s.1, omega (arith, s.0))
+rule_ends ws at k e few (Err f) s = tt

@@ -17,8 +17,7 @@ use Rattle.grammar.specs.Words.{Grammar, R, RuleAt, place_of, reads, layout}
 use Rattle.layout.specs.Walk.{WalkPlace, count_at, walk_start, step_at, span_at, past_rule}
 use Rattle.layout.specs.Rules.{places_by, places_from, right_at}
 use Rattle.layout.specs.declared.walk.RuleSpan.{RuleSpan}
-use Rattle.layout.specs.declared.walk.Step.{Step}
-use Rattle.layout.specs.declared.walk.Step.TheVariants.{Rule, End}
+use Rattle.std.specs.Prelude.{Option, Some, None}
 use Rattle.grammar.proofs.LayoutExact.{in_bounds, rule_at}
 use Rattle.layout.proofs.RulePlaces as places
 use Rattle.layout.proofs.WalkInOrder.{walk_before, walk_hands_rule, walk_ends}
@@ -38,26 +37,26 @@ pub record Handed (v : WalkPlace) (s : RuleSpan) : Type 0 where
   pub number : s.number ≡ v.number
 
 module _ (ws : List ℕ) (v : WalkPlace) where
-  pub handed : {s : RuleSpan} → step_at ws v ≡ Rule s → Handed v s
+  pub handed : {s : RuleSpan} → step_at ws v ≡ Some s → Handed v s
   handed {s} e = go (dec_lt v.number 256) (dec_lt (length ws) (v.at + 2 + count_at ws v.at))
     where
       go : Dec (v.number < 256) → Dec (length ws < v.at + 2 + count_at ws v.at) → Handed v s
       go (yes h) (yes l) = absurd (let z : ◌≡◌ {A = ℕ} 0 1 = cc (step_cut ws v h l) in omega arith)
       go (yes h) (no l) =
-          let same : Rule s ≡ Rule (span_at ws v) = sym e ∙ step_rule ws v h (omega arith) in
+          let same : Some s ≡ Some (span_at ws v) = sym e ∙ step_rule ws v h (omega arith) in
           let q : s ≡ span_at ws v = cc in
           record { room = h; number = ap (λ (x : RuleSpan). x.number) q }
       go (no h) l = absurd (let z : ◌≡◌ {A = ℕ} 0 1 = cc (step_past_256 ws v (omega arith)) in omega arith)
 
-  pub starts_handed : (room : ℕ) {s : RuleSpan} → step_at ws v ≡ Rule s →
+  pub starts_handed : (room : ℕ) {s : RuleSpan} → step_at ws v ≡ Some s →
       places_from (suc room) ws v ≡ v.at ∷ places_from room ws (past_rule s)
   unfolding places_from
-  starts_handed room e = ap (λ (t : Step). places_by t v.at (λ u. places_from room ws u)) e
+  starts_handed room e = ap (λ (t : Option RuleSpan). places_by t v.at (λ u. places_from room ws u)) e
 
-  pub starts_ended : (room : ℕ) → step_at ws v ≡ End → places_from room ws v ≡ []
+  pub starts_ended : (room : ℕ) → step_at ws v ≡ None → places_from room ws v ≡ []
   unfolding places_from
   starts_ended zero e = refl
-  starts_ended (suc room) e = ap (λ (t : Step). places_by t v.at (λ u. places_from room ws u)) e
+  starts_ended (suc room) e = ap (λ (t : Option RuleSpan). places_by t v.at (λ u. places_from room ws u)) e
 
 -- these are the places of the rules of g from number k on
 record PlacesFrom (g : Grammar) (k : ℕ) (places : List ℕ) : Type 0 where
@@ -91,7 +90,7 @@ module _ (ws : List ℕ) (g : Grammar) (e : layout ws ≡ reads g) where
           rw (starts_handed ws (walk_before g k) room step) (one_place g k _ m (later (omega arith)))
       go (no m) later =
           let end : k ≡ R g = omega arith in
-          let last : step_at ws (walk_before g k) ≡ End = rw end (walk_ends ws g e) in
+          let last : step_at ws (walk_before g k) ≡ None = rw end (walk_ends ws g e) in
           rw (starts_ended ws (walk_before g k) (suc room) last) (no_places_lem g k end)
 
   all_places : PlacesFrom g 0 (places_from 256 ws walk_start)

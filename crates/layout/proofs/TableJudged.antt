@@ -7,9 +7,9 @@ use native.Mathlib.Omega.{arith}
 use lib.ListN.{length, drop, drop_of_length-le}
 use lib.Seq.{drop-cons}
 use Rattle.grammar.specs.Words.{Judged, reads, faults, lefts}
-use Rattle.layout.specs.JudgeParts.{number_of, more, Ruled}
-use Rattle.layout.specs.declared.judge.Part.{Part}
-use Rattle.layout.specs.declared.judge.Part.TheVariants.{Fit, Fault}
+use Rattle.layout.specs.JudgeParts.{Part, number_of, more, Ruled}
+use Rattle.std.specs.Prelude.{Ok, Err}
+use Rattle.layout.specs.Judge.{fault}
 
 more_none : (r : Judged ℕ) → r ≡ more 0 r
 more_none (reads n) = let e : n ≡ 0 + n = omega arith in ap reads e
@@ -40,9 +40,9 @@ module _ (ws : List ℕ) (N T : ℕ) where
   room_for : (n : ℕ) → n < 256 → 256 - n ≡ suc (256 - (n + 1))
   room_for n h = omega arith
 
-  pub rule_faulted : (at n p : ℕ) (r : Part) → n < 256 → Ruled ws N T at r → r ≡ Fault p → whole at n ≡ faults p
+  pub rule_faulted : (at n p : ℕ) (r : Part) → n < 256 → Ruled ws N T at r → r ≡ Err (fault p) → whole at n ≡ faults p
   rule_faulted at n p r h judged e = rw (room_for n h, (rw e at judged) (256 - (n + 1)))
 
-  pub rule_passed : (at n q : ℕ) (r : Part) → n < 256 → Ruled ws N T at r → r ≡ Fit q → whole at n ≡ whole q (n + 1)
+  pub rule_passed : (at n q : ℕ) (r : Part) → n < 256 → Ruled ws N T at r → r ≡ Ok q → whole at n ≡ whole q (n + 1)
   rule_passed at n q r h judged e =
       rw (room_for n h, (rw e at judged) (256 - (n + 1))) (more_one n (number_of (lefts (drop q ws) q (256 - (n + 1)) N T)))

@@ -13,8 +13,7 @@ use denote.Ref.{Bor}
 use Rattle.grammar.specs.Words.{Grammar, Rule, ◌⟶◌, R, place_of, RuleAt, reads, layout}
 use Rattle.layout.specs.Walk.{WalkPlace, place, walk_start, count_at, step_at, past_rule, past_step, walk_at}
 use Rattle.layout.specs.declared.walk.RuleSpan.{RuleSpan}
-use Rattle.layout.specs.declared.walk.Step.{Step}
-use Rattle.layout.specs.declared.walk.Step.TheVariants as step
+use Rattle.std.specs.Prelude.{Option, Some, None}
 use Rattle.layout.specs.WalkOrder.{SpanOf, HandsOut, ended, handed, NextHandsOut}
 use Rattle.grammar.proofs.LayoutExact.{in_bounds, rule_below}
 use Rattle.layout.proofs.RulePlaces as places
@@ -32,7 +31,7 @@ next_hands_out : (words : Bor (List ℕ)) {k : ℕ} {v : WalkPlace} {rs : List R
     NextHandsOut k (walk_at words v) rs
 next_hands_out words {k} {v} (ended e) = ended e
 next_hands_out words {k} {v} (handed {rs = rs} {s = s} e span h) =
-    let past : past_step (step_at words.now v) v ≡ past_rule s = ap (λ (t : Step). past_step t v) e in
+    let past : past_step (step_at words.now v) v ≡ past_rule s = ap (λ (t : Option RuleSpan). past_step t v) e in
     let later = subst⁻¹ (λ (x : WalkPlace). NextHandsOut (k + 1) (walk_at words x) rs) past (next_hands_out words h) in
     handed e span later
 
@@ -49,7 +48,7 @@ module _ (ws : List ℕ) (g : Grammar) (e : layout ws ≡ reads g) where
   few = (in_bounds ws e).at_most_256
 
   module _ (k A : ℕ) (w : List ℕ) (stands : get_elem? g.rules k ≡ some (A ⟶ w)) where
-    steps : step_at ws (walk_before g k) ≡ step.Rule (span_of g k A w)
+    steps : step_at ws (walk_before g k) ≡ Some (span_of g k A w)
     steps =
         let low = rule_below g.rules k (A ⟶ w) stands in
         let counted = places.count_stands ws g e k A w stands in
@@ -70,24 +69,24 @@ module _ (ws : List ℕ) (g : Grammar) (e : layout ws ≡ reads g) where
 
   -- rule k is handed out by step k, and the walk then stands before rule k + 1, at the span's end
   pub walk_hands_rule : {k A : ℕ} {w : List ℕ} → RuleAt g k A w →
-      step_at ws (walk_before g k) ≡ step.Rule (span_of g k A w)
+      step_at ws (walk_before g k) ≡ Some (span_of g k A w)
   walk_hands_rule {k} {A} {w} r = steps k A w r.stands
 
   pub walk_span : {k A : ℕ} {w : List ℕ} → RuleAt g k A w → SpanOf ws k A w (span_of g k A w)
   walk_span {k} {A} {w} r = spans k A w r.stands
 
   -- after R rules the walk ends
-  pub walk_ends : step_at ws (walk_before g (R g)) ≡ step.End
+  pub walk_ends : step_at ws (walk_before g (R g)) ≡ None
   walk_ends = go (dec_lt (R g) 256)
     where
-      go : Dec (R g < 256) → step_at ws (walk_before g (R g)) ≡ step.End
+      go : Dec (R g < 256) → step_at ws (walk_before g (R g)) ≡ None
       go (yes h) = step_cut ws (walk_before g (R g)) h (omega (arith, places.places_end ws g e))
       go (no h) = step_past_256 ws (walk_before g (R g)) (omega arith)
 
   in_order : (rs : List Rule) (k : ℕ) → k ≤ R g → drop k g.rules ≡ rs → HandsOut ws k (walk_before g k) rs
   in_order [] k l q =
       let n : k ≡ R g = omega (arith, length-drop k g.rules, ap length q) in
-      let last : step_at ws (walk_before g k) ≡ step.End = rw n walk_ends in
+      let last : step_at ws (walk_before g k) ≡ None = rw n walk_ends in
       ended last
   in_order ((A ⟶ w) ∷ rs) k l q =
       let h = next_left g.rules k (A ⟶ w) rs q in

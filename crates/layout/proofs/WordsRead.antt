@@ -1,22 +1,16 @@
 -- What an answer of `layout::read` says of the words: where they break, or what grammar they are and where its rules stand.
 -- Assumes nothing.
-use mathlib.Core.Path.{◌≡◌, refl, sym, ap, ◌∙◌}
-use mathlib.Core.List.{List}
+use mathlib.Core.Path.{◌≡◌, refl, ap, ◌∙◌}
+use mathlib.Core.List.{List, [], ◌∷◌}
 use Prim.Native.Nat.{ℕ, ◌≤◌, ◌<◌}
 use native.Mathlib.Omega.{arith}
 use lib.ListN.{get_or}
-use Rattle.grammar.specs.Words.{Grammar, R, place_of, layout, reads, faults}
-use Rattle.layout.specs.Judge.{answer_of, no_places, places_of}
-use Rattle.layout.specs.declared.judge.LayoutAnswer.{LayoutAnswer}
-use Rattle.layout.specs.declared.judge.LayoutAnswer.TheVariants as judged
-use Rattle.grammar.proofs.LayoutExact.{layout_exact, in_bounds}
-use Rattle.grammar.proofs.FirstOffence.{layout-faults_exact}
-use Rattle.layout.proofs.JudgeExact.{judge_fault_exact, judge_grammar_exact}
+use Rattle.grammar.specs.Words.{Grammar, R, Judged, place_of, layout, reads, faults}
+use Rattle.layout.specs.Judge.{numbers_of, no_places, places_of}
+use Rattle.layout.specs.declared.reading.Reading.{Reading}
+use Rattle.grammar.proofs.LayoutExact.{in_bounds}
 use Rattle.layout.proofs.RulesByNumber.{place_in_front}
 use Rattle.layout.specs.View.{View, Begun}
-
-pub broken_of : (ws : List ℕ) {r : LayoutAnswer} {p : ℕ} → r ≡ answer_of (layout ws) → r ≡ judged.Fault p → layout ws ≡ faults p
-broken_of ws {p = p} e q = (layout-faults_exact ws p).1 ((judge_fault_exact ws e p).0 q)
 
 -- the places of words that are known to be a grammar are its rules'
 begin_of : (ws : List ℕ) {places : List ℕ} {g : Grammar} → layout ws ≡ reads g → places ≡ places_of (layout ws) →
@@ -27,21 +21,24 @@ pub places_of_lem : (ws : List ℕ) {places : List ℕ} {g : Grammar} → layout
     View ws places g.N (R g) g
 places_of_lem ws is e = record { is = is; begin = begin_of ws is e; nonterminals = refl; all_rules = refl }
 
-pub begun_of : (ws : List ℕ) {places : List ℕ} {r : LayoutAnswer} {n t s k : ℕ} → r ≡ answer_of (layout ws) →
-    places ≡ places_of (layout ws) → r ≡ judged.Grammar n t s k → Begun ws places n s k
-begun_of ws {n = n} {t} {s} {k} e noted q =
-    let w = (judge_grammar_exact ws e n t s k).0 q in
-    let is : layout ws ≡ reads w.grammar = (layout_exact ws w.grammar).1 (w.ok, w.are) in
-    record {
-      grammar = w.grammar;
-      view = record {
-        is = is;
-        begin = begin_of ws is noted;
-        nonterminals = sym w.nonterminals;
-        all_rules = sym w.rules;
-      };
-      first = sym w.start;
-    }
+-- what a reading says of itself
+pub begun_of : (v : Reading) → Begun v.words.now v.places v.nonterminals v.start v.rules
+begun_of v = go (layout v.words.now) refl v.numbers
+  where
+    go : (j : Judged Grammar) → layout v.words.now ≡ j → numbers_of j ≡ v.nonterminals ∷ v.terminals ∷ v.start ∷ v.rules ∷ [] →
+        Begun v.words.now v.places v.nonterminals v.start v.rules
+    go (reads g) is e =
+        record {
+          grammar = g;
+          view = record {
+            is = is;
+            begin = begin_of v.words.now is v.stand;
+            nonterminals = cc e;
+            all_rules = cc e;
+          };
+          first = cc e;
+        }
+    go (faults p) is e = absurd (let z : ◌≡◌ {A = ℕ} 0 1 = cc in omega arith)
 
 -- a grammar's bounds
 pub view_few : {ws places : List ℕ} {n rules : ℕ} {g : Grammar} → View ws places n rules g → (n ≤ 128) × (rules ≤ 256)

@@ -1,16 +1,27 @@
 -- What the judge of words answers: what Words.antt says of them, with N, T, the start and R in place of the grammar; and where a
 -- grammar's rules stand.
 -- Assumes nothing.
-use Rattle.std.specs.Prelude.{◌≡◌, List, ℕ, replicate}
+use Rattle.std.specs.Prelude.{◌≡◌, List, [], ◌∷◌, ℕ, replicate, Result, Ok, Err}
 use Rattle.answers.specs.Buffers.{over}
 use Rattle.answers.specs.Lists.{tabulate}
 use Rattle.grammar.specs.Words.{Grammar, R, InBounds, words, place_of, Judged, reads, faults}
-use Rattle.layout.specs.declared.judge.LayoutAnswer.{LayoutAnswer}
-use Rattle.layout.specs.declared.judge.LayoutAnswer.TheVariants as answer
+use Rattle.layout.specs.declared.judge.Shape.{Shape}
+use Rattle.layout.specs.declared.judge.Fault.{Fault}
 
-abbrev pub answer_of : Judged Grammar → LayoutAnswer
-answer_of (reads g) = answer.Grammar g.N g.T g.start (R g)
-answer_of (faults p) = answer.Fault p
+abbrev pub shape : ℕ → ℕ → ℕ → ℕ → Shape
+shape N T S n = record { nonterminals = N; terminals = T; start = S; rules = n }
+
+abbrev pub fault : ℕ → Fault
+fault p = record { place = p }
+
+abbrev pub answer_of : Judged Grammar → Result Shape Fault
+answer_of (reads g) = Ok (shape g.N g.T g.start (R g))
+answer_of (faults p) = Err (fault p)
+
+-- the same numbers in a row; of words that are no grammar none
+abbrev pub numbers_of : Judged Grammar → List ℕ
+numbers_of (reads g) = g.N ∷ g.T ∷ g.start ∷ R g ∷ []
+numbers_of (faults p) = []
 
 -- where the rules stand, in an array of 256: the index of each rule's left side, by number, and 0 past the rules; of words that
 -- are no grammar 0 throughout

@@ -1,15 +1,14 @@
 -- The rules of words by number: where each stands, as a walk hands them out, and the right side of the one at an index. Of any
 -- words, whether they are a grammar or not.
 -- Assumes nothing.
-use Rattle.std.specs.Prelude.{Bool, true, false, List, [], ◌∷◌, ℕ, zero, suc, ◌+◌, leb, length, take, drop}
+use Rattle.std.specs.Prelude.{Bool, true, false, List, [], ◌∷◌, ℕ, zero, suc, ◌+◌, leb, length, take, drop, Option, Some, None}
 use Rattle.layout.specs.Walk.{WalkPlace, count_at, step_at, past_rule}
-use Rattle.layout.specs.declared.walk.Step.{Step}
-use Rattle.layout.specs.declared.walk.Step.TheVariants.{Rule, End}
+use Rattle.layout.specs.declared.walk.RuleSpan.{RuleSpan}
 
 -- the index of the rule that a step hands out, and those after it
-abbrev pub places_by : Step → ℕ → (WalkPlace → List ℕ) → List ℕ
-places_by End at after = []
-places_by (Rule s) at after = at ∷ after (past_rule s)
+abbrev pub places_by : Option RuleSpan → ℕ → (WalkPlace → List ℕ) → List ℕ
+places_by None at after = []
+places_by (Some s) at after = at ∷ after (past_rule s)
 
 -- the indexes of the rules that a walk from a place on hands out, so many at most
 unfoldable pub places_from : ℕ → List ℕ → WalkPlace → List ℕ

@@ -1,12 +1,9 @@
 -- What a walk over the rules of words hands out, at any place of any words: "the table it reads and its place are kept together".
 -- Assumes nothing.
-use Rattle.std.specs.Prelude.{Bool, true, false, List, ℕ, ◌+◌, ltb, leb, length, get_or}
+use Rattle.std.specs.Prelude.{Bool, true, false, List, ℕ, ◌+◌, ltb, leb, length, get_or, Option, Some, None}
 use Rattle.std.specs.Borrow.{Bor}
 use Rattle.layout.specs.declared.walk.RuleSpan.{RuleSpan}
-use Rattle.layout.specs.declared.walk.Step.{Step}
-use Rattle.layout.specs.declared.walk.Step.TheVariants.{Rule, End}
 use Rattle.layout.specs.declared.walk.RuleWalk.{RuleWalk}
-use Rattle.layout.specs.declared.walk.Taken.{Taken}
 
 -- a walk's place: the index and the number of the rule that comes next
 pub record WalkPlace : Type 0 where
@@ -35,22 +32,22 @@ span_at ws v =
       end = v.at + 2 + count_at ws v.at;
     }
 
-abbrev pub or_end : Bool → Step → Step
+abbrev pub or_end : Bool → Option RuleSpan → Option RuleSpan
 or_end true s = s
-or_end false s = End
+or_end false s = None
 
 -- "at most 256" rules, each whole: else the walk is at its end
-abbrev pub step_at : List ℕ → WalkPlace → Step
+abbrev pub step_at : List ℕ → WalkPlace → Option RuleSpan
 step_at ws v =
-    or_end (ltb v.number 256) (or_end (leb (v.at + 2 + count_at ws v.at) (length ws)) (Rule (span_at ws v)))
+    or_end (ltb v.number 256) (or_end (leb (v.at + 2 + count_at ws v.at) (length ws)) (Some (span_at ws v)))
 
 -- the place past a rule, which is the next rule's
 abbrev pub past_rule : RuleSpan → WalkPlace
 past_rule s = place s.end (s.number + 1)
 
-abbrev pub past_step : Step → WalkPlace → WalkPlace
-past_step (Rule s) v = past_rule s
-past_step End v = v
+abbrev pub past_step : Option RuleSpan → WalkPlace → WalkPlace
+past_step (Some s) v = past_rule s
+past_step None v = v
 
 -- the place after what stands at a place: at its end a walk stays
 abbrev pub place_after : List ℕ → WalkPlace → WalkPlace
@@ -66,6 +63,11 @@ place_in w = place w.at w.number
 -- the walk goes on over the same words
 abbrev pub walk_past : RuleWalk → RuleWalk
 walk_past w = walk_at w.words (place_after w.words.now (place_in w))
+
+-- what a walk hands out, and the walk after it
+pub record Taken : Type 0 where
+  pub step : Option RuleSpan
+  pub walk : RuleWalk
 
 -- the rule that comes next, and the walk after it
 abbrev pub taken_from : RuleWalk → Taken

@@ -4,7 +4,7 @@ ghost use Rattle.layout.specs.Rules.{right_at};
 
 use crate::words::word;
 
-// The index of the rule of a number, where the places were found; 0 past the last of them.
+// The index of the rule of a number, where the places were found; 0 past the last of them. The name stays for `index_settles`.
 pub fn index(places: &[u16], number: usize) -> usize
     ensures { result ≡ get_or places.now number 0 }
 {

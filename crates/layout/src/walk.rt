@@ -1,7 +1,8 @@
-// A walk over the rules of grammar words: the words it reads and its place are kept together. Each function over that struct is
-// thin; the work is in `step_at`, over plain words. Who loops over the rules calls `rule_from`, and needs no walk.
-ghost use Rattle.std.specs.Prelude.{◌≡◌};
-ghost use Rattle.layout.specs.Walk.{place, place_in, walk_at, walk_start, step_at, place_after, walk_past, taken_from};
+// A walk over the rules of grammar words: the words it reads and its place are kept together. It is an iterator over the rules.
+// The work is in `rule_from`, over plain words.
+ghost use Rattle.std.specs.Prelude.{◌≡◌, ◌-◌};
+ghost use Rattle.std.specs.Iterator.{at_most};
+ghost use Rattle.layout.specs.Walk.{place, place_in, walk_at, walk_start, step_at, taken_from};
 
 use crate::words::word;
 
@@ -13,7 +14,7 @@ pub const MOST_RULES: usize = 256;
 
 // Where a rule stands in the words: its number, its left side, how many symbols it has, the index of the first and the index
 // past the last.
-#[derive(Clone, Copy)]
+#[derive(Clone, Copy, Debug, PartialEq, Eq)]
 pub struct RuleSpan {
     pub number: usize,
     pub left: usize,
@@ -22,25 +23,12 @@ pub struct RuleSpan {
     pub end: usize,
 }
 
-#[derive(Clone, Copy)]
-pub enum Step {
-    Rule(RuleSpan),
-    End,
-}
-
 // The words, and the index and the number of the rule that comes next.
 #[derive(Clone, Copy)]
 pub struct RuleWalk<'a> {
     words: &'a [u16],
     at: usize,
     number: usize,
-}
-
-// What a walk handed out, and the walk after it.
-#[derive(Clone, Copy)]
-pub struct Taken<'a> {
-    pub step: Step,
-    pub walk: RuleWalk<'a>,
 }
 
 impl<'a> RuleWalk<'a> {
@@ -55,90 +43,55 @@ impl<'a> RuleWalk<'a> {
         }
     }
 
-    // The rule at the walk's place; End where no whole rule stands there, or 256 went before.
-    pub fn stands_at(self) -> Step
+    // The rule at the walk's place; none where no whole rule stands there, or 256 went before.
+    pub fn stands_at(self) -> Option<RuleSpan>
         ensures { result ≡ step_at self.entry.words.now (place_in self.entry) }
     {
-        step_at(self.words, self.at, self.number)
-    }
-
-    // The walk past that rule; the same walk where there is none.
-    fn past(self) -> RuleWalk<'a>
-        ensures { result ≡ walk_past self.entry }
-    {
-        let at = index_after(self.words, self.at, self.number);
-        let number = number_after(self.words, self.at, self.number);
-        RuleWalk {
-            words: self.words,
-            at,
-            number,
-        }
-    }
-
-    // The next rule, and the walk after it.
-    pub fn next(self) -> Taken<'a>
-        ensures { result ≡ taken_from self.entry }
-    {
-        Taken {
-            step: self.stands_at(),
-            walk: self.past(),
-        }
+        rule_from(self.words, self.at, self.number)
     }
 }
 
-// The rule at a place, by a walk that is made here.
-pub fn rule_from(words: &[u16], at: usize, number: usize) -> Step
-    ensures { result ≡ step_at words.now (place at number) }
-{
-    let walk = RuleWalk { words, at, number };
-    walk.stands_at()
+// Hands out the next rule and goes past it; at its end a walk stays.
+impl<'a> Iterator for RuleWalk<'a> {
+    type Item = RuleSpan;
+
+    ghost next_gives = { λ before step after. (record { step = step; walk = after }) ≡ taken_from before };
+
+    ghost remaining = { λ walk. at_most (256 - walk.number) };
+
+    fn next(&mut self) -> Option<RuleSpan> {
+        let span = self.stands_at()?;
+        self.at = span.end;
+        self.number += 1;
+        Some(span)
+    }
 }
 
-// The rule at an index, if fewer than 256 went before.
-fn step_at(words: &[u16], at: usize, number: usize) -> Step
+// The rule at a place, whoever has no walk; none where no whole rule stands there, or 256 went before.
+pub fn rule_from(words: &[u16], at: usize, number: usize) -> Option<RuleSpan>
     ensures { result ≡ step_at words.now (place at number) }
 {
     let len = words.len();
     if MOST_RULES <= number {
-        return Step::End;
+        return None;
     }
     if len < 2 {
-        return Step::End;
+        return None;
     }
     if len - 2 < at {
-        return Step::End;
+        return None;
     }
     let first = at + 2;
     let left = word(words, at);
     let count = word(words, at + 1);
     if len - first < count {
-        return Step::End;
+        return None;
     }
-    Step::Rule(RuleSpan {
+    Some(RuleSpan {
         number,
         left,
         count,
         first,
         end: first + count,
     })
-}
-
-// The index past the rule at a place; the same index where there is none.
-fn index_after(words: &[u16], at: usize, number: usize) -> usize
-    ensures { result ≡ (place_after words.now (place at number)).at }
-{
-    match step_at(words, at, number) {
-        Step::Rule(span) => span.end,
-        Step::End => at,
-    }
-}
-
-// The number past that of the rule at a place; the same number where there is none.
-fn number_after(words: &[u16], at: usize, number: usize) -> usize
-    ensures { result ≡ (place_after words.now (place at number)).number }
-{
-    match step_at(words, at, number) {
-        Step::Rule(_) => number + 1,
-        Step::End => number,
-    }
 }

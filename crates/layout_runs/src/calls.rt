@@ -1,54 +1,36 @@
 // The calls. Assumes nothing.
-use layout::judge::LayoutAnswer;
-use layout::walk::{FIRST_RULE, RuleSpan, Step, rule_from};
+use layout::walk::{RuleSpan, RuleWalk};
+
+// More rules than a grammar has: a walk that hands out so many is stopped.
+const MOST_HANDED: usize = 257;
 
 pub fn judge(words: &[u16]) {
     match layout::judge::judge(words) {
-        LayoutAnswer::Grammar {
-            nonterminals,
-            terminals,
-            start,
-            rules,
-        } => {
+        Ok(shape) => {
             print::text(b" grammar");
-            print::number(nonterminals);
-            print::number(terminals);
-            print::number(start);
-            print::number(rules);
+            print::number(shape.nonterminals);
+            print::number(shape.terminals);
+            print::number(shape.start);
+            print::number(shape.rules);
         }
-        LayoutAnswer::Fault { place } => {
+        Err(fault) => {
             print::text(b" fault");
-            print::number(place);
+            print::number(fault.place);
         }
     }
 }
 
-// Prints the rules that a walk hands out, from a number on, and then how many it handed out in all. A grammar has at most
-// 256; a walk that hands out more is stopped.
+// Prints the rules that a walk hands out, from a number on, and then how many it handed out in all.
 pub fn walk(words: &[u16], from: usize) {
-    let mut at = FIRST_RULE;
-    let mut handed = 0;
-    while handed < 257 {
-        match rule_from(words, at, handed) {
-            Step::Rule(span) => {
-                at = span.end;
-                print_span(span, from);
-            }
-            Step::End => {
-                break;
-            }
-        }
-        handed += 1;
+    for span in RuleWalk::start(words).take(MOST_HANDED).skip(from) {
+        print_span(span);
     }
     print::text(b" rules");
-    print::number(handed);
+    print::number(RuleWalk::start(words).take(MOST_HANDED).count());
 }
 
 // A rule's number, left side, count and index of the first symbol.
-fn print_span(span: RuleSpan, from: usize) {
-    if span.number < from {
-        return;
-    }
+fn print_span(span: RuleSpan) {
     print::text(b" rule");
     print::number(span.number);
     print::number(span.left);

@@ -7,26 +7,19 @@ mod calls;
 
 fn main() {
     let mut text = [0; cases::MOST_TEXT];
-    let mut rest = cases::read(&mut text);
-    while 0 < rest.len() {
-        run(cases::first_case(rest));
-        let later = cases::later_lines(rest);
-        rest = later;
+    for case in cases::each(cases::read(&mut text)) {
+        run(case);
     }
 }
 
 fn run(case: &[u8]) {
-    if case.len() == 0 {
-        return;
-    }
     print::text(case);
     print::text(b" ->");
     let mut words = [0; cases::MOST_SPELLED];
-    let count = cases::numbers(cases::given(case), &mut words);
-    if case[0] == b'w' {
-        calls::walk(&words[0..count], cases::room(case));
-    } else {
-        calls::judge(&words[0..count]);
+    let words = cases::numbers(cases::given(case), &mut words);
+    match case {
+        [b'w', ..] => calls::walk(words, cases::room(case)),
+        _ => calls::judge(words),
     }
     print::text(b"\n");
 }

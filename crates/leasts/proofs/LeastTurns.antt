@@ -1,136 +1,81 @@
 -- What a rule's turn does to the leasts. It lowers at most one figure, and only to the cut of what some tree costs: one of its
 -- left side, which the rule and the trees of its symbols make. Where it lowers none it changes nothing, and the rule is quiet
--- where the leasts are sound. What is tried after it, because it lowered one, keeps the leasts sound.
--- Assumes nothing.
-use mathlib.Core.Path.{◌≡◌, refl, ◌∙◌}
+-- where the leasts are sound. Assumes nothing.
+use mathlib.Core.Path.{◌≡◌, refl}
+use mathlib.Core.Bool.{false}
 use mathlib.Core.List.{List}
 use Prim.Native.Nat.{ℕ, ◌+◌, ◌≤◌, ◌<◌}
 use native.Mathlib.Omega.{arith}
-use lib.ListN.{length, get_or}
+use lib.ListN.{length}
+use Rattle.std.proofs.Common.{ltb}
+use Rattle.std.specs.Int.{from_bool}
+use Rattle.std.specs.Prelude.{Some, None}
 use Rattle.grammar.specs.Words.{Grammar, RuleAt}
 use Rattle.grammar.specs.Terms.{measure}
 use Rattle.grammar.specs.Caps.{OfTree, measure_cap}
-use Rattle.grammar.specs.Certificates.{word_size}
 use Rattle.grammar.proofs.AtRest.{rule_figure}
 use Rattle.grammar.proofs.LayoutExact.{in_bounds, rule_short}
-use Rattle.layout.specs.Rules.{right_at}
-use Rattle.layout.specs.View.{View}
-use Rattle.layout.proofs.RulesInView.{viewed_rule, viewed_left, viewed_right, viewed_room}
+use Rattle.layout.specs.Read.{ReadsAs}
+use Rattle.layout.specs.declared.reading.Reading.{Reading}
 use Rattle.figures.specs.Figures.{figure, capped, Lowered, fell, stayed}
 use Rattle.figures.specs.Weights.{Fallen}
-use Rattle.figures.proofs.FiguresFall.{lowered_fallen}
-use Rattle.figures.proofs.FiguresKept.{lowered_length, lowered_known}
-use Rattle.leasts.specs.LeastSteps.{LeastsSound, HaveIn, SizeOf, LeastStep, too_many, not_yet, tried, QuietIfSound}
-use Rattle.leasts.specs.LeastRounding.{Turn}
+use Rattle.figures.proofs.FiguresFall.{figure_is, lowered_fallen}
+use Rattle.figures.proofs.FiguresKept.{lowered_known}
+use Rattle.leasts.specs.LeastSteps.{LeastsSound, Sized, has_size, no_size, QuietIfSound}
+use Rattle.leasts.specs.LeastRounding.{TurnOf}
+use Rattle.leasts.specs.declared.rule.Rule.{Rule}
+use Rattle.leasts.proofs.RuleRead.{the_rule, left_is, symbols_are, size_is, lacks_is}
 use Rattle.leasts.proofs.SymbolsCost.{quiet_too_many}
 
-pub step_fallen : {A n k : ℕ} {w vs us : List ℕ} → LeastStep A w n vs us k → Fallen vs us k
-step_fallen (too_many h) = omega arith
-step_fallen (not_yet h) = omega arith
-step_fallen (tried x s l) = lowered_fallen l
+pub lowered_weight : {vs us : List ℕ} {A y k : ℕ} → Lowered vs A y us k → Fallen vs us (from_bool (ltb 0 k))
+lowered_weight (fell h l) = lowered_fallen (fell h l)
+lowered_weight (stayed h) = lowered_fallen (stayed h)
 
-step_length : {A n k : ℕ} {w vs us : List ℕ} → LeastStep A w n vs us k → length us ≡ length vs
-step_length (too_many h) = refl
-step_length (not_yet h) = refl
-step_length (tried x s l) = lowered_length l
+lowered_none : {vs us : List ℕ} {A y k : ℕ} → A < length vs → Lowered vs A y us k → ltb 0 k ≡ false →
+    (us ≡ vs) × (figure vs A ≤ y)
+lowered_none room (fell h l) e = absurd (let z : ◌≡◌ {A = ℕ} 0 1 = cc in omega arith)
+lowered_none room (stayed h) e = (refl, h room)
 
-module _ (g : Grammar) {A : ℕ} {w : List ℕ} {k : ℕ} (r : RuleAt g k A w) (vs : List ℕ) (room : g.N ≤ length vs) where
-  -- the size of a rule whose symbols have figures is such a figure
-  size_of_tree : {x : ℕ} → LeastsSound g vs → SizeOf g.N vs w x → OfTree measure measure_cap g A (capped x)
-  size_of_tree sound s =
-      rw (s.is g refl) (rule_figure measure measure_cap g (figure vs) r (λ B m l. sound B (s.have B m l)))
-
-  lowered_sound : {x n : ℕ} {us : List ℕ} → SizeOf g.N vs w x → Lowered vs A (capped x) us n →
-      LeastsSound g vs → LeastsSound g us
-  lowered_sound s d sound = lowered_known (λ B y. OfTree measure measure_cap g B y) d (size_of_tree sound s) sound
-
-  lowered_still : {x n : ℕ} {us : List ℕ} → SizeOf g.N vs w x → Lowered vs A (capped x) us n → n ≡ 0 →
-      (us ≡ vs) × (figure vs A ≤ capped (1 + word_size measure g (figure vs) w))
-  lowered_still s (fell h l) e = absurd (omega arith)
-  lowered_still s (stayed h) e = (refl, rw (s.is g refl) at (h (omega (arith, r.left))))
-
-  step_keeps : {n : ℕ} {us : List ℕ} → LeastStep A w g.N vs us n → LeastsSound g vs → LeastsSound g us
-  step_keeps (too_many h) sound = sound
-  step_keeps (not_yet h) sound = sound
-  step_keeps (tried x s l) sound = lowered_sound s l sound
-
-  step_still : {n : ℕ} {us : List ℕ} → length w ≤ 32 → LeastStep A w g.N vs us n → n ≡ 0 →
-      (us ≡ vs) × (LeastsSound g vs → HaveIn g.N vs w → figure vs A ≤ capped (1 + word_size measure g (figure vs) w))
-  step_still short (too_many h) e = (refl, λ sound have. quiet_too_many g vs sound w A short h have)
-  step_still short (not_yet h) e = (refl, λ sound have. absurd (h have))
-  step_still short (tried x s l) e = let (q, z) = lowered_still s l e in (q, λ sound have. z)
-
--- A TURN of rule k alone, as the functions read the rule
-module _ {ws places : List ℕ} {n rules : ℕ} {g : Grammar} (view : View ws places n rules g) where
-  turn_alone : {k m : ℕ} {vs us : List ℕ} → k < rules → 128 ≤ length vs →
-      LeastStep (get_or ws (get_or places k 0) 0) (right_at ws (get_or places k 0)) n vs us m → Turn g k vs us m
-  turn_alone {k} {m} {vs} {us} h long step = record { keeps = keeps (viewed_rule view k h); still = still (viewed_rule view k h) }
+module _ (rule : Rule) (vs : List ℕ) where
+  pub turn_too_many : figure vs rule.left ≤ length rule.symbols.now + 1 → TurnOf rule vs vs false
+  turn_too_many many g view = record { keeps = λ sound. sound; still = λ e. (refl, quiet) }
     where
-      step_of : {A : ℕ} {w : List ℕ} → RuleAt g k A w → LeastStep A w g.N vs us m
-      step_of r = rw (viewed_left view r, viewed_right view r, view.nonterminals) at step
+      quiet : QuietIfSound g vs rule.number
+      quiet sound A w here =
+          let short = rule_short (in_bounds rule.reading.now.words.now view.is) here in
+          quiet_too_many g vs sound w A short (rw (left_is rule view here, symbols_are rule view here) at many)
 
-      keeps : (A : ℕ) × (w : List ℕ) × RuleAt g k A w → LeastsSound g vs → LeastsSound g us
-      keeps (A, w, r) = step_keeps g r vs (viewed_room view long) (step_of r)
+  pub turn_not_yet : Sized rule vs None → TurnOf rule vs vs false
+  turn_not_yet (no_size lacks) g view = record {
+    keeps = λ sound. sound;
+    still = λ e. (refl, λ sound A w here have. absurd (lacks_is rule view here vs lacks have));
+  }
 
-      still : (A : ℕ) × (w : List ℕ) × RuleAt g k A w → m ≡ 0 → (us ≡ vs) × QuietIfSound g vs k
-      still (A, w, r) e =
-          let room = viewed_room view long in
-          let ok = in_bounds ws view.is in (
-            (step_still g r vs room (rule_short ok r) (step_of r) e).0,
-            λ sound B u q. (step_still g q vs room (rule_short ok q) (step_of q) e).1 sound,
+  pub turn_tried : {us : List ℕ} {x k : ℕ} → rule.left < length vs → Sized rule vs (Some x) →
+      Lowered vs rule.left (capped x) us k → TurnOf rule vs us (ltb 0 k)
+  turn_tried {us} {x} {k} room (has_size size) low g view = record { keeps = keeps (the_rule rule view); still = still }
+    where
+      -- the size of a rule whose symbols have figures is such a figure
+      of_tree : {A : ℕ} {w : List ℕ} → RuleAt g rule.number A w → LeastsSound g vs → OfTree measure measure_cap g A (capped x)
+      of_tree here sound =
+          let s = size_is rule view here size in
+          rw (s.is g refl) (rule_figure measure measure_cap g (figure vs) here (λ B m l. sound B (s.have B m l)))
+
+      keeps : (A : ℕ) × (w : List ℕ) × RuleAt g rule.number A w → LeastsSound g vs → LeastsSound g us
+      keeps (A, w, here) sound =
+          lowered_known (λ B y. OfTree measure measure_cap g B y) (rw (left_is rule view here) at low) (of_tree here sound) sound
+
+      still : ltb 0 k ≡ false → (us ≡ vs) × QuietIfSound g vs rule.number
+      still e =
+          let (same, above) = lowered_none room low e in (
+            same,
+            λ sound A w here have. rw (left_is rule view here, (size_is rule view here size).is g refl) at above,
           )
 
--- A TURN of rule k so far, from the figures vs to us: rule r is next, and it is k itself where nothing fell yet
-pub record Followed (ws places : List ℕ) (n rules k : ℕ) (vs us : List ℕ) (f r : ℕ) : Type 0 where
-  pub same_length : length us ≡ length vs
-  pub fallen : Fallen vs us f
-  pub once : f ≤ 1
-  pub first : f ≡ 0 → (us ≡ vs) × (r ≡ k)
-  pub keeps : (g : Grammar) → View ws places n rules g → LeastsSound g vs → LeastsSound g us
+-- for the check of `lower_least`
+pub ruleset turns = (turn_too_many, turn_not_yet, turn_tried, lowered_weight, figure_is)
 
-module _ {ws places : List ℕ} {n rules : ℕ} where
-  pub followed_none : {k : ℕ} (vs : List ℕ) → Followed ws places n rules k vs vs 0 k
-  followed_none vs = record {
-    same_length = refl;
-    fallen = omega arith;
-    once = omega arith;
-    first = λ e. (refl, refl);
-    keeps = λ g view s. s;
-  }
-
-  module _ {k A r at f m : ℕ} {w vs us xs : List ℕ} (so_far : Followed ws places n rules k vs us f r) (h : r < rules)
-      (long : 128 ≤ length us) (found : at ≡ get_or places r 0) (e : A ≡ get_or ws at 0) (e' : w ≡ right_at ws at)
-      (step : LeastStep A w n us xs m) where
-    turn_of : (g : Grammar) → View ws places n rules g → Turn g r us xs m
-    turn_of g view = turn_alone view h long (rw (e, e', found) at step)
-
-    -- the next rule lowers a figure
-    pub followed_more : (s : ℕ) → ¬ (m ≡ 0) → Followed ws places n rules k vs xs 1 s
-    followed_more s some = record {
-      same_length = step_length step ∙ so_far.same_length;
-      fallen = omega (arith, so_far.fallen, step_fallen step);
-      once = omega arith;
-      first = λ z. absurd (omega arith);
-      keeps = λ g view sound. (turn_of g view).keeps (so_far.keeps g view sound);
-    }
-
-    -- the next rule lowers none
-    pub followed_end : m ≡ 0 → (f ≤ 1) × Fallen vs xs f
-    followed_end none = (so_far.once, omega (arith, so_far.fallen, step_fallen step))
-
-    pub followed_turn : m ≡ 0 → (g : Grammar) → View ws places n rules g → Turn g k vs xs f
-    followed_turn none g view = record {
-      keeps = λ sound. (turn_of g view).keeps (so_far.keeps g view sound);
-      still = λ z.
-          let (same, is) = so_far.first z in
-          let (same', quiet) = (turn_of g view).still none in
-          (same' ∙ same, rw (same, is) at quiet);
-    }
-
-  -- there is no next rule
-  pub followed_out : {k f r : ℕ} {vs us : List ℕ} → Followed ws places n rules k vs us f r → k < rules → rules ≤ r → (g : Grammar) →
-      View ws places n rules g → Turn g k vs us f
-  followed_out so_far h past g view = record {
-    keeps = so_far.keeps g view;
-    still = λ z. let (same, is) = so_far.first z in absurd (omega arith);
-  }
+-- A TURN so far, from the leasts vs to us, once a figure fell: what is known of them is kept
+pub record Followed (v : Reading) (vs us : List ℕ) : Type 0 where
+  pub fallen : Fallen vs us 1
+  pub keeps : (g : Grammar) → ReadsAs v g → LeastsSound g vs → LeastsSound g us

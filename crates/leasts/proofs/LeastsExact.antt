@@ -5,13 +5,16 @@ use native.Mathlib.Omega.{arith}
 use mathlib.Core.Path.{◌≡◌, refl, subst}
 use mathlib.Core.Logic.{◌↔◌}
 use mathlib.Core.List.{List}
-use Rattle.grammar.specs.Words.{Grammar, layout, reads}
+use denote.Ref.{Bor}
+use Rattle.std.specs.Prelude.{Result, Ok, Err, IsOkAnd}
+use Rattle.layout.specs.declared.judge.Fault.{Fault}
+use Rattle.grammar.specs.Words.{Grammar, layout, reads, faults}
 use Rattle.grammar.specs.Tree.{Tree}
 use Rattle.grammar.specs.Terms.{measure, limit}
 use Rattle.grammar.specs.Least.{Least}
 use Rattle.grammar.proofs.Unique.{least_unique}
 use Rattle.figures.specs.Figures.{no_figure, figure, capped}
-use Rattle.leasts.specs.Promise.{LeastFigure, of_tree, no_tree, FiguresOf, Figured, LeastsOf}
+use Rattle.leasts.specs.Promise.{LeastFigure, of_tree, no_tree, FiguresOf, LeastsOf}
 use Rattle.leasts.specs.declared.FoundLeasts.{FoundLeasts}
 
 module _ {g : Grammar} {A : ℕ} where
@@ -31,15 +34,26 @@ module _ {g : Grammar} {A : ℕ} where
   least_low (of_tree {x} least) z l = let e = least_unique {c = measure} least z in omega arith
   least_low (no_tree none) z l = absurd (none z.tree)
 
-module _ (words : List ℕ) {g : Grammar} (e : layout words ≡ reads g) {r : FoundLeasts} (p : LeastsOf words r) where
-  pub figures_of_lem : FiguresOf g r.leasts r.sizes
-  figures_of_lem = subst (λ j. Figured j r.leasts r.sizes) e p.figures
+module _ (words : Bor (List ℕ)) {g : Grammar} (e : layout words.now ≡ reads g) where
+  -- the words are no other grammar, and nowhere broken
+  figures_of_lem : {found : FoundLeasts} → LeastsOf words (Ok found) → FiguresOf g found.leasts found.sizes
+  figures_of_lem p = let (h, is, figures) = p.figures in let same : h ≡ g = cc in rw same at figures
 
-  pub no_figure_exactly : (A : ℕ) → A < g.N → (figure r.leasts A ≡ no_figure) ↔ ¬ Tree g A
-  no_figure_exactly A lt = (none_no_tree (figures_of_lem.least A lt), no_tree_none (figures_of_lem.least A lt))
+  no_fault : {p : ℕ} → ¬ (layout words.now ≡ faults p)
+  no_fault broken = absurd (let z : ◌≡◌ {A = ℕ} 0 1 = cc in omega arith)
 
-  pub least_exactly : (A : ℕ) → A < g.N → (x : ℕ) → x ≤ limit → (figure r.leasts A ≡ x) ↔ Least measure g A x
-  least_exactly A lt x l = (
-    λ same. let low : figure r.leasts A ≤ limit = omega arith in rw same at (low_least (figures_of_lem.least A lt) low),
-    λ least. least_low (figures_of_lem.least A lt) least l,
-  )
+  pub no_figure_exactly : (r : Result FoundLeasts Fault) → LeastsOf words r →
+      IsOkAnd r (λ found. (A : ℕ) → A < g.N → (figure found.leasts A ≡ no_figure) ↔ ¬ Tree g A)
+  no_figure_exactly (Ok found) p = λ A lt.
+      let least = (figures_of_lem p).least A lt in
+      (none_no_tree least, no_tree_none least)
+  no_figure_exactly (Err f) p = no_fault p
+
+  pub least_exactly : (r : Result FoundLeasts Fault) → LeastsOf words r →
+      IsOkAnd r (λ found. (A : ℕ) → A < g.N → (x : ℕ) → x ≤ limit → (figure found.leasts A ≡ x) ↔ Least measure g A x)
+  least_exactly (Ok found) p = λ A lt x l.
+      let least = (figures_of_lem p).least A lt in (
+        λ same. let low : figure found.leasts A ≤ limit = omega arith in rw same at (low_least least low),
+        λ other. least_low least other l,
+      )
+  least_exactly (Err f) p = no_fault p

@@ -7,9 +7,11 @@ use mathlib.Core.Path.{◌≡◌, refl, sym, ◌∙◌}
 use mathlib.Core.Logic.{◌⊎◌, inl, inr}
 use mathlib.Core.List.{List}
 use lib.ListN.{length, get_or, get_or-eq_default}
+use denote.Ref.{Bor}
+use Rattle.std.specs.Prelude.{Result, Ok, Err}
 use Rattle.answers.specs.Lists.{tabulate}
 use Rattle.answers.proofs.Tabulate.{length-tabulate, get_d_tabulate}
-use Rattle.grammar.specs.Words.{Grammar, RuleAt, R, InBounds, Judged, layout, reads, faults}
+use Rattle.grammar.specs.Words.{Grammar, RuleAt, R, InBounds}
 use Rattle.grammar.specs.Tree.{Tree, ◌∈◌}
 use Rattle.grammar.specs.Terms.{measure}
 use Rattle.grammar.specs.Least.{Least}
@@ -18,12 +20,16 @@ use Rattle.grammar.proofs.LayoutExact.{in_bounds, rule_at}
 use Rattle.grammar.proofs.LeastsExist.{least?, tree?}
 use Rattle.grammar.proofs.RuleNumbers.{rule_right, rule_number}
 use Rattle.grammar.proofs.Search.{member?, some_below}
-use Rattle.layout.specs.Judge.{answer_of, places_of}
+use Rattle.layout.specs.Read.{ReadOf}
+use Rattle.layout.specs.declared.judge.Fault.{Fault}
+use Rattle.layout.specs.declared.reading.Reading.{Reading}
+use Rattle.layout.proofs.WordsRead.{begun_of}
 use Rattle.figures.specs.Figures.{no_figure, figure, capped}
 use Rattle.figures.proofs.FiguresFall.{figure_is}
 use Rattle.leasts.specs.Promise.{LeastFigure, of_tree, no_tree, HaveTrees, SizeFigure, of_trees, no_trees}
-use Rattle.leasts.specs.Promise.{FiguresOf, no_leasts, no_sizes, Figured, LeastsOf}
+use Rattle.leasts.specs.Promise.{FiguresOf, LeastsOf}
 use Rattle.leasts.specs.declared.FoundLeasts.{FoundLeasts}
+use Rattle.layout.proofs.ReadingMade.{read_met}
 
 -- words by their places
 at_place : (f : ℕ → ℕ) (n i d : ℕ) → i < n → get_or (tabulate f n) i d ≡ f i
@@ -116,13 +122,15 @@ module _ (g : Grammar) (ok : InBounds g) where
       no_size k past (yes l) = at_place (λ k. (size_at k).0) 256 k 0 l ∙ (size_at k).2 past
       no_size k past (no l) = past_end (λ k. (size_at k).0) 256 k 0 (omega arith)
 
-figured_met : (ws : List ℕ) (j : Judged Grammar) → layout ws ≡ j → (leasts : List ℕ) × (sizes : List ℕ) × Figured j leasts sizes
-figured_met ws (reads g) e = let ok = in_bounds ws e in (leasts g ok, sizes g ok, figures_met g ok)
-figured_met ws (faults p) e = (no_leasts, no_sizes, (refl, refl))
-
 -- MET
-pub leasts_met : (ws : List ℕ) → (r : FoundLeasts) × LeastsOf ws r
-leasts_met ws =
-    let (leasts, sizes, figured) = figured_met ws (layout ws) refl in
-    let r : FoundLeasts = record { answer = answer_of (layout ws); places = places_of (layout ws); leasts = leasts; sizes = sizes } in
-    (r, record { answer = refl; places = refl; figures = figured })
+pub leasts_met : (words : Bor (List ℕ)) → (r : Result FoundLeasts Fault) × LeastsOf words r
+leasts_met words = go (read_met words)
+  where
+    go : (r : Result Reading Fault) × ReadOf words r → (r : Result FoundLeasts Fault) × LeastsOf words r
+    go (Ok v, same) =
+        let b = begun_of v in
+        let g = b.grammar in
+        let ok = in_bounds v.words.now b.view.is in
+        let found : FoundLeasts = record { reading = v; leasts = leasts g ok; sizes = sizes g ok } in
+        (Ok found, record { same = same; figures = rw (← same) (g, b.view.is, figures_met g ok) })
+    go (Err e, broken) = (Err e, broken)

@@ -1,4 +1,4 @@
--- Any two outcomes that the promise of `leasts` allows for the same words coincide: the judge's answer and places are given, a
+-- Any two outcomes that the promise of `leasts` allows for the same words coincide: there is one reading or one fault, a
 -- nonterminal has one least or no tree, and by the leasts a rule has one size. Assumes nothing.
 use Prim.Native.Nat.{ℕ, ◌<◌}
 use native.Mathlib.Omega.{arith}
@@ -7,12 +7,17 @@ use mathlib.Core.Path.{◌≡◌, refl, sym, ap, ◌∙◌}
 use mathlib.Core.List.{List}
 use lib.ListN.{get_or}
 use lib.Seq.{ext_get_or}
-use Rattle.grammar.specs.Words.{Grammar, R, InBounds, Judged, layout, reads, faults}
+use denote.Ref.{Bor}
+use Rattle.std.specs.Prelude.{Result, Ok, Err}
+use Rattle.grammar.specs.Words.{Grammar, R, InBounds, reads, faults}
 use Rattle.grammar.specs.Terms.{measure}
 use Rattle.grammar.proofs.LayoutExact.{in_bounds, rule_at}
 use Rattle.grammar.proofs.Unique.{least_unique}
+use Rattle.layout.specs.Judge.{fault}
+use Rattle.layout.specs.declared.judge.Fault.{Fault}
+use Rattle.layout.proofs.ReadingsSame.{same_reading}
 use Rattle.figures.specs.Figures.{no_figure, figure, capped}
-use Rattle.leasts.specs.Promise.{LeastFigure, of_tree, no_tree, SizeFigure, of_trees, no_trees, FiguresOf, Figured, LeastsOf}
+use Rattle.leasts.specs.Promise.{LeastFigure, of_tree, no_tree, SizeFigure, of_trees, no_trees, FiguresOf, LeastsOf}
 use Rattle.leasts.specs.declared.FoundLeasts.{FoundLeasts}
 
 figure_settles : {g : Grammar} {A x y : ℕ} → LeastFigure g A x → LeastFigure g A y → x ≡ y
@@ -48,15 +53,20 @@ module _ {g : Grammar} (ok : InBounds g) {leasts sizes : List ℕ} (p : FiguresO
       let q' : FiguresOf g leasts sizes' = rw e q in
       (e, sizes_same q')
 
-figured_settle : (ws : List ℕ) (j : Judged Grammar) → layout ws ≡ j → {leasts sizes leasts' sizes' : List ℕ} →
-    Figured j leasts sizes → Figured j leasts' sizes' → (leasts ≡ leasts') × (sizes ≡ sizes')
-figured_settle ws (reads g) e p q = figures_settle (in_bounds ws e) p q
-figured_settle ws (faults place) e p q = (p.0 ∙ sym q.0, p.1 ∙ sym q.1)
+no_fault : {g : Grammar} {p : ℕ} → ¬ (reads g ≡ faults p)
+no_fault e = absurd (let z : ◌≡◌ {A = ℕ} 0 1 = cc in omega arith)
 
 -- SETTLED
-pub leasts_settles : (ws : List ℕ) {r s : FoundLeasts} → LeastsOf ws r → LeastsOf ws s → r ≡ s
-leasts_settles ws {r} {s} p q =
-    let (same, sizes) = figured_settle ws (layout ws) refl p.figures q.figures in
-    let answers = p.answer ∙ sym q.answer in
-    let places = p.places ∙ sym q.places in
-    λ i. record { answer = answers i; places = places i; leasts = same i; sizes = sizes i }
+pub leasts_settles : (words : Bor (List ℕ)) {r s : Result FoundLeasts Fault} → LeastsOf words r → LeastsOf words s → r ≡ s
+leasts_settles words {r = Ok r} {s = Ok s} p q =
+    let (g, is, figures) = p.figures in
+    let (h, is', others) = q.figures in
+    let same : h ≡ g = cc in
+    let (leasts, sizes) = figures_settle (in_bounds words.now is) figures (rw same at others) in
+    let reading = same_reading r.reading s.reading (p.same ∙ sym q.same) in
+    ap Ok (λ i. record { reading = reading i; leasts = leasts i; sizes = sizes i })
+leasts_settles words {r = Ok r} {s = Err f} p q = absurd (let (g, is, figures) = p.figures in no_fault (sym is ∙ q))
+leasts_settles words {r = Err e} {s = Ok s} p q = absurd (let (g, is, figures) = q.figures in no_fault (sym is ∙ p))
+leasts_settles words {r = Err e} {s = Err f} p q =
+    let same : e.place ≡ f.place = cc in
+    ap (λ (p : ℕ). Err (fault p)) same

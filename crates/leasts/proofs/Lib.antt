@@ -1,4 +1,6 @@
--- A rule's size, and what its turn does to the leasts.
+-- A rule as a reading gives it, its size, and what its turn does to the leasts.
+pub mod ReadingBounds
+pub mod RuleRead
 pub mod RuleSummed
 pub mod SymbolsCost
 pub mod LeastTurns

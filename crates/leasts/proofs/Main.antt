@@ -4,6 +4,9 @@ use Prim.Native.Nat.{ℕ, ◌≤◌, ◌<◌}
 use mathlib.Core.Path.{◌≡◌}
 use mathlib.Core.Logic.{◌↔◌}
 use mathlib.Core.List.{List}
+use denote.Ref.{Bor}
+use Rattle.std.specs.Prelude.{Result, IsOkAnd}
+use Rattle.layout.specs.declared.judge.Fault.{Fault}
 use Rattle.grammar.specs.Words.{Grammar, layout, reads}
 use Rattle.grammar.specs.Tree.{Tree}
 use Rattle.grammar.specs.Terms.{measure, limit}
@@ -16,18 +19,19 @@ use Rattle.leasts.proofs.LeastsMet as LeastsMet
 use Rattle.leasts.proofs.LeastsExact as LeastsExact
 
 -- LEASTS. Its promise allows exactly one outcome for each words.
-pub leasts_settles : (words : List ℕ) {r s : FoundLeasts} → LeastsOf words r → LeastsOf words s → r ≡ s
+pub leasts_settles : (words : Bor (List ℕ)) {r s : Result FoundLeasts Fault} → LeastsOf words r → LeastsOf words s → r ≡ s
 leasts_settles = LeastsSettle.leasts_settles
 
-pub leasts_met : (words : List ℕ) → (r : FoundLeasts) × LeastsOf words r
+pub leasts_met : (words : Bor (List ℕ)) → (r : Result FoundLeasts Fault) × LeastsOf words r
 leasts_met = LeastsMet.leasts_met
 
--- Where the words are a grammar, a nonterminal has no figure exactly where it has no complete tree, and a figure up to the limit
--- exactly where that is its least.
-pub no_figure_exactly : (words : List ℕ) {g : Grammar} → layout words ≡ reads g → {r : FoundLeasts} → LeastsOf words r →
-    (A : ℕ) → A < g.N → (figure r.leasts A ≡ no_figure) ↔ ¬ Tree g A
-no_figure_exactly words e p = LeastsExact.no_figure_exactly words e p
+-- Where the words are a grammar, the outcome is Ok; in it a nonterminal has no figure exactly where it has no complete tree, and a
+-- figure up to the limit exactly where that is its least.
+pub no_figure_exactly : (words : Bor (List ℕ)) {g : Grammar} → layout words.now ≡ reads g → (r : Result FoundLeasts Fault) →
+    LeastsOf words r → IsOkAnd r (λ found. (A : ℕ) → A < g.N → (figure found.leasts A ≡ no_figure) ↔ ¬ Tree g A)
+no_figure_exactly = LeastsExact.no_figure_exactly
 
-pub least_exactly : (words : List ℕ) {g : Grammar} → layout words ≡ reads g → {r : FoundLeasts} → LeastsOf words r →
-    (A : ℕ) → A < g.N → (x : ℕ) → x ≤ limit → (figure r.leasts A ≡ x) ↔ Least measure g A x
-least_exactly words e p = LeastsExact.least_exactly words e p
+pub least_exactly : (words : Bor (List ℕ)) {g : Grammar} → layout words.now ≡ reads g → (r : Result FoundLeasts Fault) →
+    LeastsOf words r →
+    IsOkAnd r (λ found. (A : ℕ) → A < g.N → (x : ℕ) → x ≤ limit → (figure found.leasts A ≡ x) ↔ Least measure g A x)
+least_exactly = LeastsExact.least_exactly

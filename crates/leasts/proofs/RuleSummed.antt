@@ -9,6 +9,7 @@ use native.Mathlib.Omega.{arith}
 use native.Mathlib.Numerals.{add-one}
 use lib.ListN.{length, get_or, drop, drop_of_length-le}
 use lib.Seq.{drop-cons}
+use Rattle.std.specs.Prelude.{Some, None}
 use Rattle.grammar.specs.Words.{Grammar}
 use Rattle.grammar.specs.Tree.{◌∈◌}
 use Rattle.grammar.specs.Terms.{measure}
@@ -16,99 +17,77 @@ use Rattle.grammar.specs.Certificates.{symbol_size, word_size}
 use Rattle.grammar.proofs.Certificate.{symbol_nonterminal, symbol_terminal}
 use Rattle.figures.specs.Figures.{no_figure, figure, Has}
 use Rattle.figures.proofs.FiguresFall.{figure_is}
-use Rattle.leasts.specs.LeastSteps.{HaveIn, SizeOf, Sized, has_size, no_size}
-
--- a symbol's size by the figures vs, where n symbols are nonterminals
-pub data SymbolSize (n : ℕ) (vs : List ℕ) (s : ℕ) : ℕ → Type 0 where
-  of_nonterminal : s < n → SymbolSize n vs s (figure vs s)
-  of_terminal : n ≤ s → SymbolSize n vs s 1
+use Rattle.leasts.specs.LeastSteps.{HaveIn, Sized, has_size, no_size}
+use Rattle.leasts.specs.declared.rule.Rule.{Rule}
 
 -- the sum of the symbols before place i, and one
-pub record Summed (n : ℕ) (vs w : List ℕ) (i sum : ℕ) : Type 0 where
-  pub have : HaveIn n vs (drop i w) → HaveIn n vs w
-  pub rest : (g : Grammar) → n ≡ g.N → sum + word_size measure g (figure vs) (drop i w) ≡ 1 + word_size measure g (figure vs) w
-  pub some : 0 < sum
+pub record Summed (rule : Rule) (vs : List ℕ) (i sum : ℕ) : Type 0 where
+  pub have : HaveIn rule.reading.now.nonterminals vs (drop i rule.symbols.now) →
+      HaveIn rule.reading.now.nonterminals vs rule.symbols.now
+  pub rest : (g : Grammar) → rule.reading.now.nonterminals ≡ g.N →
+      sum + word_size measure g (figure vs) (drop i rule.symbols.now) ≡ 1 + word_size measure g (figure vs) rule.symbols.now
   pub small : sum ≤ 1 + 65535 * i
 
--- a nonterminal's size, as it is read
-pub symbol_read : {n s : ℕ} (vs : List ℕ) → s < n → n ≤ length vs → SymbolSize n vs s (get_or vs s 0)
-symbol_read {s = s} vs l room = rw (figure_is vs s 0 (omega arith)) (of_nonterminal l)
+module _ (rule : Rule) (vs : List ℕ) where
+  abbrev n : ℕ
+  n = rule.reading.now.nonterminals
 
-module _ (n : ℕ) (vs w : List ℕ) where
-  symbol_is : {s x : ℕ} → SymbolSize n vs s x → (g : Grammar) → n ≡ g.N → symbol_size measure g (figure vs) s ≡ x
-  symbol_is {s} (of_nonterminal h) g e = symbol_nonterminal measure g (figure vs) s (omega arith)
-  symbol_is {s} (of_terminal h) g e = symbol_terminal measure g (figure vs) s (omega arith)
+  abbrev w : List ℕ
+  w = rule.symbols.now
 
-  symbol_has : {s x : ℕ} → SymbolSize n vs s x → ¬ (x ≡ no_figure) → s < n → Has vs s
-  symbol_has (of_nonterminal h) has l = has
-  symbol_has (of_terminal h) has l = absurd (omega arith)
-
-  have_more : {s x : ℕ} {u : List ℕ} → SymbolSize n vs s x → ¬ (x ≡ no_figure) → HaveIn n vs u → HaveIn n vs (s ∷ u)
-  have_more {s} z has have B m l = ⊎_elim (λ e. rw e (symbol_has z has (rw e at l))) (λ m'. have B m' l) (Memᴰ.cases_cons m)
-
-  pub summed_none : Summed n vs w 0 1
-  summed_none = record { have = λ h. h; rest = λ g e. refl; some = omega arith; small = omega arith }
-
-  pub summed_more : {i sum x : ℕ} → i < length w → SymbolSize n vs (get_or w i 0) x → ¬ (x ≡ 65535) → x ≤ 65535 →
-      Summed n vs w i sum → Summed n vs w (i + 1) (sum + x)
+  pub summed_all : {i sum : ℕ} → Summed rule vs i sum → length w ≤ i → i ≤ length w → Sized rule vs (Some sum)
   unfolding word_size
-  summed_more {i} {sum} {x} h z has l so_far = record {
-    have = have;
-    rest = rest;
-    some = omega (arith, so_far.some);
-    small = omega (arith, so_far.small);
-  }
-    where
-      next : drop i w ≡ get_or w i 0 ∷ drop (i + 1) w
-      next = rw (add-one, drop-cons w i 0)
-
-      have : HaveIn n vs (drop (i + 1) w) → HaveIn n vs w
-      have k = so_far.have (rw next (have_more z has k))
-
-      rest : (g : Grammar) → n ≡ g.N →
-          sum + x + word_size measure g (figure vs) (drop (i + 1) w) ≡ 1 + word_size measure g (figure vs) w
-      rest g e = omega (arith, symbol_is z g e, so_far.rest g e, ap (word_size measure g (figure vs)) next)
-
-  pub summed_all : {i sum : ℕ} → length w ≤ 65535 → i ≡ length w → Summed n vs w i sum → SizeOf n vs w sum
-  unfolding word_size
-  summed_all {i} {sum} l h so_far = record {
-    have = so_far.have have;
-    is = is;
-    some = so_far.some;
-    fits = omega (arith, so_far.small);
-  }
+  summed_all {i} {sum} so_far past within = has_size (record {
+    have = so_far.have (rw end (λ B m l. absurd (Memᴰ.not-nil m)));
+    is = λ g e. omega (arith, so_far.rest g e, ap (word_size measure g (figure vs)) end);
+    fits = omega (arith, so_far.small, rule.few);
+  })
     where
       end : drop i w ≡ []
-      end = let past : length w ≤ i = omega arith in drop_of_length-le w past
+      end = drop_of_length-le w past
 
-      have : HaveIn n vs (drop i w)
-      have = rw end (λ B m l. absurd (Memᴰ.not-nil m))
+  -- the symbol at place i
+  module _ {i : ℕ} (inside : i < length w) where
+    abbrev s : ℕ
+    s = get_or w i 0
 
-      is : (g : Grammar) → n ≡ g.N → sum ≡ 1 + word_size measure g (figure vs) w
-      is g e = omega (arith, so_far.rest g e, ap (word_size measure g (figure vs)) end)
+    summed_more : {sum : ℕ} (x : ℕ) → (s < n → Has vs s) → ((g : Grammar) → n ≡ g.N → symbol_size measure g (figure vs) s ≡ x) →
+        x ≤ 65535 → Summed rule vs i sum → Summed rule vs (i + 1) (sum + x)
+    unfolding word_size
+    summed_more {sum} x has size small so_far = record {
+      have = λ have. so_far.have (rw next (more have));
+      rest = λ g e. omega (arith, size g e, so_far.rest g e, ap (word_size measure g (figure vs)) next);
+      small = omega (arith, so_far.small);
+    }
+      where
+        next : drop i w ≡ s ∷ drop (i + 1) w
+        next = rw (add-one, drop-cons w i 0)
 
-  -- a symbol without a size
-  symbol_lacks : {s x : ℕ} → SymbolSize n vs s x → x ≡ no_figure → (s < n) × (¬ Has vs s)
-  symbol_lacks (of_nonterminal h) e = (h, λ has. has e)
-  symbol_lacks (of_terminal h) e = absurd (omega arith)
+        more : HaveIn n vs (drop (i + 1) w) → HaveIn n vs (s ∷ drop (i + 1) w)
+        more have B m l = ⊎_elim (λ e. rw e (has (rw e at l))) (λ m'. have B m' l) (Memᴰ.cases_cons m)
 
-  pub lacks_size : (i : ℕ) {x : ℕ} → i < length w → SymbolSize n vs (get_or w i 0) x → x ≡ no_figure → ¬ HaveIn n vs w
-  lacks_size i h z e have = let (l, lacks) = symbol_lacks z e in lacks (have (get_or w i 0) (at_place w i h) l)
-    where
-      at_place : (u : List ℕ) (i : ℕ) → i < length u → get_or u i 0 ∈ u
-      at_place [] i h = absurd (omega arith)
-      at_place (s ∷ u) zero h = Memᴰ.head refl
-      at_place (s ∷ u) (suc i) h = Memᴰ.tail (at_place u i (omega arith))
+    pub terminal_summed : {sum : ℕ} → n ≤ s → Summed rule vs i sum → Summed rule vs (i + 1) (sum + 1)
+    terminal_summed past =
+        summed_more 1 (λ l. absurd (omega arith)) (λ g e. symbol_terminal measure g (figure vs) s (omega arith)) (omega arith)
 
--- WHAT A SUM SAYS: it is 0 exactly where a symbol has no figure
-pub sized_none : {n x : ℕ} {vs w : List ℕ} → Sized n vs w x → x ≡ 0 → ¬ HaveIn n vs w
-sized_none (has_size s) e = absurd (omega (arith, s.some))
-sized_none (no_size lacks) e = lacks
+    module _ (room : length vs ≡ 128) (below : s < n) where
+      least_is : get_or vs s 0 ≡ figure vs s
+      least_is = figure_is vs s 0 (omega (arith, rule.few))
 
-pub sized_some : {n x : ℕ} {vs w : List ℕ} → Sized n vs w x → ¬ (x ≡ 0) → SizeOf n vs w x
-sized_some (has_size s) some = s
-sized_some (no_size lacks) some = absurd (some refl)
+      pub nonterminal_summed : {sum : ℕ} → ¬ (get_or vs s 0 ≡ no_figure) → get_or vs s 0 < 65536 → Summed rule vs i sum →
+          Summed rule vs (i + 1) (sum + get_or vs s 0)
+      nonterminal_summed has fits =
+          summed_more (get_or vs s 0) (λ l. rw least_is at has)
+          (λ g e. rw least_is (symbol_nonterminal measure g (figure vs) s (omega arith))) (omega arith)
 
-pub sized_fits : {n x : ℕ} {vs w : List ℕ} → Sized n vs w x → x < 4294967296
-sized_fits (has_size s) = s.fits
-sized_fits (no_size lacks) = omega arith
+      -- it has no size
+      pub nonterminal_lacks : get_or vs s 0 ≡ no_figure → Sized rule vs None
+      nonterminal_lacks e = no_size (λ have. have s (at_place w i inside) below (rw least_is at e))
+        where
+          at_place : (u : List ℕ) (k : ℕ) → k < length u → get_or u k 0 ∈ u
+          at_place [] k h = absurd (omega arith)
+          at_place (t ∷ u) zero h = Memᴰ.head refl
+          at_place (t ∷ u) (suc k) h = Memᴰ.tail (at_place u k (omega arith))
+
+-- for the check of `rule_size`
+pub ruleset sums = (nonterminal_summed, nonterminal_lacks, terminal_summed, summed_all)

@@ -1,15 +1,15 @@
--- What `leasts` promises, for any words. Document 01: "Least(A) is the smallest size of a complete tree rooted at A. A rule's size
--- is 1 plus the sizes of its symbols, terminals counting 1 and nonterminals their least." The answer and the places are the
--- judge's. Of a grammar the leasts are cut at document 01's limit and one more, and a nonterminal without a complete tree has
--- `no_figure`; the sizes are the sums by these leasts, uncut, and a rule that names a nonterminal without a tree has 0. Assumes
--- nothing.
-use Rattle.std.specs.Prelude.{ℕ, ◌+◌, ◌≤◌, ◌<◌, ◌≡◌, List, length, get_or, replicate}
-use Rattle.grammar.specs.Words.{Grammar, RuleAt, R, Judged, layout, reads, faults}
+-- What `leasts` promises, for any words. Document 01: "Least(A) is the smallest size of a complete tree rooted at A. A rule's
+-- size is 1 plus the sizes of its symbols, terminals counting 1 and nonterminals their least." The leasts are cut at document 01's
+-- limit and one more, and a nonterminal without a complete tree has `no_figure`; the sizes are the sums by these leasts, uncut, and
+-- a rule that names a nonterminal without a tree has 0. Of words that are no grammar there is the fault. Assumes nothing.
+use Rattle.std.specs.Prelude.{ℕ, ◌+◌, ◌≤◌, ◌<◌, ◌≡◌, List, length, get_or, Result, Ok, Err}
+use Rattle.std.specs.Borrow.{Bor}
+use Rattle.grammar.specs.Words.{Grammar, RuleAt, R, Are, layout, faults}
 use Rattle.grammar.specs.Tree.{Tree, ◌∈◌}
 use Rattle.grammar.specs.Terms.{measure}
 use Rattle.grammar.specs.Least.{Least}
 use Rattle.grammar.specs.Certificates.{word_size}
-use Rattle.layout.specs.Judge.{answer_of, places_of}
+use Rattle.layout.specs.declared.judge.Fault.{Fault}
 use Rattle.figures.specs.Figures.{no_figure, figure, capped}
 use Rattle.leasts.specs.declared.FoundLeasts.{FoundLeasts}
 
@@ -36,19 +36,11 @@ pub record FiguresOf (g : Grammar) (leasts sizes : List ℕ) : Type 0 where
   pub size : (k A : ℕ) (w : List ℕ) → RuleAt g k A w → SizeFigure g leasts w (get_or sizes k 0)
   pub no_size : (k : ℕ) → R g ≤ k → get_or sizes k 0 ≡ 0
 
--- at the outset, and of words that are no grammar
-abbrev pub no_leasts : List ℕ
-no_leasts = replicate 128 no_figure
+-- THE PROMISE: of a grammar's words a reading of them, and the figures; of other words where they break
+pub record FiguresFound (words : Bor (List ℕ)) (r : FoundLeasts) : Type 0 where
+  pub same : r.reading.words ≡ words
+  pub figures : Are words.now (λ g. FiguresOf g r.leasts r.sizes)
 
-abbrev pub no_sizes : List ℕ
-no_sizes = replicate 256 0
-
-abbrev pub Figured : Judged Grammar → List ℕ → List ℕ → Type 0
-Figured (reads g) leasts sizes = FiguresOf g leasts sizes
-Figured (faults p) leasts sizes = (leasts ≡ no_leasts) × (sizes ≡ no_sizes)
-
--- THE PROMISE
-pub record LeastsOf (words : List ℕ) (r : FoundLeasts) : Type 0 where
-  pub answer : r.answer ≡ answer_of (layout words)
-  pub places : r.places ≡ places_of (layout words)
-  pub figures : Figured (layout words) r.leasts r.sizes
+abbrev pub LeastsOf : Bor (List ℕ) → Result FoundLeasts Fault → Type 0
+LeastsOf words (Ok r) = FiguresFound words r
+LeastsOf words (Err e) = layout words.now ≡ faults e.place

@@ -4,6 +4,7 @@
 
 mod chains;
 mod rounds;
+mod rule;
 mod sizes;
 
 ghost use Rattle.leasts.specs.Promise.{LeastsOf};
@@ -11,52 +12,29 @@ ghost use Rattle.leasts.specs.Promise.{LeastsOf};
 use crate::rounds::least_rounds;
 use figures::NO_FIGURE;
 use layout::judge;
-use layout::judge::LayoutAnswer;
+use layout::judge::Fault;
+use layout::reading::Reading;
 
-// What words are, and where the rules of a grammar stand; its leasts, cut at 4,097, with NO_FIGURE for a nonterminal that has no
-// tree and past the last; and the sizes of its rules, with 0 for a rule that names such a nonterminal and past the last. Of words
-// that are no grammar there is no least, and each size is 0.
+// What was read of words that are a grammar; its leasts, cut at 4,097, with NO_FIGURE for a nonterminal that has no tree and past
+// the last; and the sizes of its rules, with 0 for a rule that names such a nonterminal and past the last.
+// NO_FIGURE and 0, and no Option: the theorem no_figure_exactly and the promise (SizeFigure) say them of the words.
 #[derive(Drop)]
-pub struct FoundLeasts {
-    pub answer: LayoutAnswer,
-    pub places: [u16; 256],
+pub struct FoundLeasts<'a> {
+    pub reading: Reading<'a>,
     pub leasts: [u16; 128],
     pub sizes: [u32; 256],
 }
 
-pub fn leasts(words: &[u16]) -> FoundLeasts
-    ensures { LeastsOf words.now result }
+pub fn leasts(words: &[u16]) -> Result<FoundLeasts<'_>, Fault>
+    ensures { LeastsOf words.entry result }
 {
-    let reading = judge::read(words);
-    let answer = reading.answer;
-    let places = reading.places;
+    let reading = judge::read(words)?;
     let mut leasts = [NO_FIGURE; 128];
     let mut sizes = [0u32; 256];
-    match answer {
-        LayoutAnswer::Fault { place } => FoundLeasts {
-            answer: LayoutAnswer::Fault { place },
-            places,
-            leasts,
-            sizes,
-        },
-        LayoutAnswer::Grammar {
-            nonterminals,
-            terminals,
-            start,
-            rules,
-        } => {
-            least_rounds(words, &places, nonterminals, rules, &mut leasts, &mut sizes);
-            FoundLeasts {
-                answer: LayoutAnswer::Grammar {
-                    nonterminals,
-                    terminals,
-                    start,
-                    rules,
-                },
-                places,
-                leasts,
-                sizes,
-            }
-        }
-    }
+    least_rounds(&reading, &mut leasts, &mut sizes);
+    Ok(FoundLeasts {
+        reading,
+        leasts,
+        sizes,
+    })
 }

@@ -1,6 +1,7 @@
 // The lines that the suite program prints, written into a lent buffer from an index on, as far as there is room; each function
 // answers the index past what it wrote. The text of each line is specs/Lines; what the buffer holds afterwards, and the index,
 // are specs/Room.
+// The buffer and the index come as two: the promise `LineWritten` of each public function is of both, before and after.
 #![tactic(auto)]
 
 ghost use Rattle.std.specs.Prelude.{◌≡◌, ◌∷◌, ◌++◌, [], ◌<◌, length};
@@ -8,11 +9,11 @@ ghost use Rattle.lines.specs.Digits.{digit, decimal};
 ghost use Rattle.lines.specs.Lines.{space, spaced, suite_line, sentence_line, end_line, refused_line};
 ghost use Rattle.lines.specs.Room.{LineWritten};
 
-const SPACE: u8 = 32;
+const SPACE: u8 = b' ';
 
-const LINE_END: u8 = 10;
+const LINE_END: u8 = b'\n';
 
-const ZERO: u8 = 48;
+const ZERO: u8 = b'0';
 
 // Writes one octet at an index; past the end nothing.
 fn put(octet: u8, text: &mut [u8], at: usize) -> usize
@@ -31,10 +32,8 @@ fn word(octets: &[u8], text: &mut [u8], at: usize) -> usize
     ensures { LineWritten octets.now text.old at text.new result }
 {
     let mut past = at;
-    let mut i = 0;
-    while i < octets.len() {
-        past = put(octets[i], text, past);
-        i += 1;
+    for octet in octets {
+        past = put(*octet, text, past);
     }
     past
 }
@@ -47,6 +46,7 @@ fn glyph(d: usize) -> u8
 }
 
 // Writes the digits of n: those before the last one first.
+// By hand: the promise LineWritten (decimal n) is of digits in a lent buffer, as far as there is room.
 fn digits(n: usize, text: &mut [u8], at: usize) -> usize
     ensures { LineWritten (decimal n) text.old at text.new result }
 {
@@ -65,21 +65,13 @@ fn number(n: usize, text: &mut [u8], at: usize) -> usize
     digits(n, text, past)
 }
 
-fn wide(n: u16) -> usize
-    ensures { result ≡ n }
-{
-    n as usize
-}
-
 // Writes a space and a number for each of the list.
 fn numbers(list: &[u16], text: &mut [u8], at: usize) -> usize
     ensures { LineWritten (spaced list.now) text.old at text.new result }
 {
     let mut past = at;
-    let mut i = 0;
-    while i < list.len() {
-        past = number(wide(list[i]), text, past);
-        i += 1;
+    for n in list {
+        past = number(usize::from(*n), text, past);
     }
     past
 }
@@ -135,7 +127,7 @@ pub fn refused(refusal: u16, place: usize, text: &mut [u8], at: usize) -> usize
     ensures { LineWritten (refused_line refusal place) text.old at text.new result }
 {
     let worded = word(b"refused", text, at);
-    let first = number(wide(refusal), text, worded);
+    let first = number(usize::from(refusal), text, worded);
     let second = number(place, text, first);
     put(LINE_END, text, second)
 }

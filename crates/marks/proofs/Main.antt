@@ -3,17 +3,17 @@
 use Prim.Native.Nat.{ℕ}
 use mathlib.Core.Path.{◌≡◌}
 use mathlib.Core.List.{List}
+use Rattle.std.specs.Prelude.{Option}
 use Rattle.marks.specs.Marks.{FirstUnused, Marked}
-use Rattle.marks.specs.declared.LowestUnused.{LowestUnused}
 use Rattle.marks.proofs.MarksSettle as MarksSettle
 use Rattle.marks.proofs.MarksMet as MarksMet
 
 -- FIRST UNUSED
-pub first_unused_settles : (marks : List ℕ) (rules : ℕ) {a b : LowestUnused} →
+pub first_unused_settles : (marks : List ℕ) (rules : ℕ) {a b : Option ℕ} →
     FirstUnused marks rules a → FirstUnused marks rules b → a ≡ b
 first_unused_settles = MarksSettle.first_unused_settles
 
-pub first_unused_met : (marks : List ℕ) (rules : ℕ) → (a : LowestUnused) × FirstUnused marks rules a
+pub first_unused_met : (marks : List ℕ) (rules : ℕ) → (a : Option ℕ) × FirstUnused marks rules a
 first_unused_met = MarksMet.first_unused_met
 
 -- MARK RULES

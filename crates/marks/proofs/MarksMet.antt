@@ -1,48 +1,36 @@
 -- The promises of this crate can be met, by the steps that its code takes: used rules are passed, and rules marked one after
 -- another are marked together. Assumes nothing.
-use Prim.Native.Nat.{ℕ, zero, suc, ◌+◌, ◌≤◌, ◌<◌}
+use Prim.Native.Nat.{ℕ, zero, suc, ◌+◌, ◌<◌}
 use native.Mathlib.Omega.{arith}
 use native.Mathlib.Decide.{dec_lt, ℕ_discrete}
 use native.Mathlib.Numerals.{add-one}
+use borrow.Author.Count.{below_more}
 use mathlib.Core.Path.{◌≡◌, refl, sym, ◌∙◌}
 use mathlib.Core.Logic.{◌⊎◌, inl, inr}
 use mathlib.Core.List.Memᴰ
-use mathlib.Core.List.{List, [], ◌∷◌, ◌++◌}
-use mathlib.Core.List.{Memᴰ}
-use lib.ListN.{length, get_or, set, take, length-set}
-use lib.Seq.{get_or-set_same, get_or-set_other, take-suc, take_all}
-use Rattle.marks.specs.Marks.{FirstUnused, at, none_unused, Marked, UsedBelow}
-use Rattle.marks.specs.declared.LowestUnused.{LowestUnused}
-use Rattle.marks.specs.declared.LowestUnused.TheVariants.{At, None}
+use mathlib.Core.List.{List, [], ◌∷◌, ◌++◌, Memᴰ}
+use lib.ListN.{length, get_or, set, length-set}
+use lib.Seq.{get_or-set_same, get_or-set_other}
+use Rattle.std.specs.Prelude.{Option, Some, None}
+use Rattle.marks.specs.Marks.{FirstUnused, at, none_unused, Marked}
 use Rattle.marks.proofs.MarksSettle.{ToSet, set?}
 
--- THE SEARCH
+-- THE SEARCH among the rules below n, and rule n behind them
 module _ (marks : List ℕ) where
-  pub used_next : (r : ℕ) → UsedBelow marks r → ¬ (get_or marks r 0 ≡ 0) → UsedBelow marks (suc r)
-  used_next r below n k l = go (ℕ_discrete k r)
-    where
-      go : Dec (k ≡ r) → ¬ (get_or marks k 0 ≡ 0)
-      go (yes e) = rw e n
-      go (no d) = below k (omega arith)
-
-  -- r is looked at, and those after it where it is used
   abbrev Search : ℕ → Type 0
-  Search rules = (a : LowestUnused) × FirstUnused marks rules a
+  Search n = (a : Option ℕ) × FirstUnused marks n a
 
-  one_looked_at : (r rules : ℕ) → r < rules → UsedBelow marks r → (UsedBelow marks (suc r) → Search rules) → Search rules
-  one_looked_at r rules l below others = go (ℕ_discrete (get_or marks r 0) 0)
+  one_more : (n : ℕ) → Search n → Search (n + 1)
+  one_more n (_, at l z below) = (Some _, at (omega arith) z below)
+  one_more n (_, none_unused all) = go (ℕ_discrete (get_or marks n 0) 0)
     where
-      go : Dec (get_or marks r 0 ≡ 0) → Search rules
-      go (yes z) = (At r, at l z below)
-      go (no n) = others (used_next r below n)
-
-  search_from : (left r rules : ℕ) → r + left ≡ rules → UsedBelow marks r → Search rules
-  search_from zero r rules e below = (None, none_unused (λ k l. below k (omega arith)))
-  search_from (suc left) r rules e below =
-      one_looked_at r rules (omega arith) below (λ more. search_from left (suc r) rules (omega arith) more)
+      go : Dec (get_or marks n 0 ≡ 0) → Search (n + 1)
+      go (yes z) = (Some n, at (omega arith) z all)
+      go (no d) = (None, none_unused (below_more _ n all d))
 
   pub first_unused_met : (rules : ℕ) → Search rules
-  first_unused_met rules = search_from rules 0 rules (omega arith) (λ k l. absurd (omega arith))
+  first_unused_met zero = (None, none_unused (λ k l. absurd (omega arith)))
+  first_unused_met (suc n) = rw (← add-one) (one_more n (first_unused_met n))
 
 -- THE MARKING of no rule
 pub marked_none : (marks : List ℕ) → Marked [] marks marks
@@ -106,13 +94,3 @@ marks_met (k ∷ ks) before =
     let (between, one) = one_met before k in
     let (after, rest) = marks_met ks between in
     (after, marked_then one rest)
-
--- of the first i numbers of a list and then of the one at i
-pub marked_next : (ks : List ℕ) (i : ℕ) {before between after : List ℕ} → i < length ks →
-    Marked (take i ks) before between → Marked (get_or ks i 0 ∷ []) between after → Marked (take (i + 1) ks) before after
-marked_next ks i b h j = rw (add-one, take-suc ks i 0) (marked_then h j)
-
--- of all of them: there are no more
-pub marked_all : (ks : List ℕ) (i count : ℕ) {before after : List ℕ} → length ks ≤ i → i ≤ count → Marked (take i ks) before after →
-    Marked (take count ks) before after
-marked_all ks i count l le h = rw (take_all count ks (omega arith), ← take_all i ks l) h

@@ -9,16 +9,15 @@ use mathlib.Core.List.Memᴰ
 use mathlib.Core.List.{List, [], ◌∷◌, Memᴰ}
 use lib.ListN.{length, get_or}
 use lib.Seq.{ext_get_or}
+use Rattle.std.specs.Prelude.{Option, Some}
 use Rattle.marks.specs.Marks.{FirstUnused, at, none_unused, Marked}
-use Rattle.marks.specs.declared.LowestUnused.{LowestUnused}
-use Rattle.marks.specs.declared.LowestUnused.TheVariants.{At}
 
 -- THE LOWEST UNUSED RULE: neither of two is below the other
 module _ (marks : List ℕ) (rules : ℕ) where
-  pub first_unused_settles : {a b : LowestUnused} → FirstUnused marks rules a → FirstUnused marks rules b → a ≡ b
+  pub first_unused_settles : {a b : Option ℕ} → FirstUnused marks rules a → FirstUnused marks rules b → a ≡ b
   first_unused_settles (at {r} l z below) (at {r = s} m y above) = same (dec_lt r s) (dec_lt s r)
     where
-      same : Dec (r < s) → Dec (s < r) → At r ≡ At s
+      same : Dec (r < s) → Dec (s < r) → Some r ≡ Some s
       same (yes lt) e = absurd (above r lt z)
       same (no ge) (yes lt) = absurd (below s lt y)
       same (no ge) (no le) = let e : r ≡ s = omega arith in rw e refl

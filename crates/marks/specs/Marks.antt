@@ -1,17 +1,15 @@
 -- What the calls of this crate promise, for any marks and any numbers. Document 01: "marks (one octet per rule, 0 for unused,
 -- anything else for used)"; "Its target is the lowest unused rule." A rule that has no mark is unused. Assumes nothing.
-use Rattle.std.specs.Prelude.{ℕ, ◌<◌, ◌≡◌, length, get_or}
+use Rattle.std.specs.Prelude.{ℕ, ◌<◌, ◌≡◌, Option, Some, None, length, get_or}
 use mathlib.Core.List.{List, Memᴰ}
-use Rattle.marks.specs.declared.LowestUnused.{LowestUnused}
-use Rattle.marks.specs.declared.LowestUnused.TheVariants.{At, None}
 
 -- none of the rules below n is unused
 abbrev pub UsedBelow : List ℕ → ℕ → Type 0
 UsedBelow marks n = (k : ℕ) → k < n → ¬ (get_or marks k 0 ≡ 0)
 
 -- the lowest rule of so many that is unused, or that none is
-pub data FirstUnused (marks : List ℕ) (rules : ℕ) : LowestUnused → Type 0 where
-  at : {r : ℕ} → r < rules → get_or marks r 0 ≡ 0 → UsedBelow marks r → FirstUnused marks rules (At r)
+pub data FirstUnused (marks : List ℕ) (rules : ℕ) : Option ℕ → Type 0 where
+  at : {r : ℕ} → r < rules → get_or marks r 0 ≡ 0 → UsedBelow marks r → FirstUnused marks rules (Some r)
   none_unused : UsedBelow marks rules → FirstUnused marks rules None
 
 -- "sets to 1 the zero marks of exactly the rules in the derivation"

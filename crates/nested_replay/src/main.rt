@@ -35,13 +35,5 @@ fn replay(words: &[u16]) {
 
 // How many words are this one.
 fn count(words: &[u16], this: u16) -> usize {
-    let mut found = 0;
-    let mut i = 0;
-    while i < words.len() {
-        if words[i] == this {
-            found += 1;
-        }
-        i += 1;
-    }
-    found
+    words.iter().filter(|word| **word == this).count()
 }

@@ -2,17 +2,16 @@
 -- of at most 8,707 words. Assumes nothing.
 use mathlib.Core.Path.{◌≡◌, refl, sym, ap, ◌∙◌}
 use mathlib.Core.List.{List, [], ◌∷◌}
-use mathlib.Core.Logic.Dec
+use Rattle.std.proofs.lemmas.Grind.{common_steps}
 use mathlib.Core.Logic.{◌↔◌}
-use Prim.Native.Nat.{ℕ, suc, ◌+◌, ◌*◌, ◌-◌, ◌/◌, ◌%◌, ◌≤◌, ◌<◌}
-use native.Mathlib.Decide.{ℕ_discrete}
+use Prim.Native.Nat.{ℕ, suc, ◌+◌, ◌*◌, ◌-◌, ◌/◌, ◌%◌, ◌≤◌}
 use native.Mathlib.Nat.{div-add-mod'}
 use native.Mathlib.Omega.{arith}
 use lib.Arith.{digits_div, digits_mod}
-use lib.ListN.{length, get_or, length-drop, get_or-eq_default}
-use Rattle.packed.specs.File.{octets_of, file_of, said, following, words_in, Octets, GoodFile}
+use lib.ListN.{length}
+use Rattle.packed.specs.File.{octets_of, file_of, said, words_in, Octets, GoodFile}
 use Rattle.packed.specs.Promise.{NotVersionOne, BadLength}
-use Rattle.packed.specs.Promise.NotVersionOne.{empty, first_not_one}
+use Rattle.packed.specs.Promise.NotVersionOne.{first_not_one}
 use Rattle.packed.specs.Promise.BadLength.{under_three, odd, above, not_following}
 use Rattle.packed.proofs.WordsAndOctets.{length-octets_of, length-file_of, length_words_in}
 use Rattle.packed.proofs.WordsAndOctets.{words_in_file_of, octets_back}
@@ -22,30 +21,11 @@ module _ (file : List ℕ) where
   pub counted : 3 ≤ length file → said file % 2 ≡ 0 → said file ≡ length file - 3 → length (words_in file) ≡ said file / 2
   counted three even follow = length_words_in file (said file / 2) (omega arith)
 
-  pub is_version_one : get_or file 0 0 ≡ 1 → ¬ NotVersionOne file
-  is_version_one v (empty e) = omega (arith, get_or-eq_default file 0 {n = 0} (omega arith))
-  is_version_one v (first_not_one h) = h v
-
-  pub is_good_length : 3 ≤ length file → said file % 2 ≡ 0 → said file ≤ 17414 → said file ≡ length file - 3 → ¬ BadLength file
-  is_good_length three even most follow (under_three h) = omega arith
-  is_good_length three even most follow (odd h) = omega arith
-  is_good_length three even most follow (above h) = omega arith
-  is_good_length three even most follow (not_following h) = h (follow ∙ omega (arith, length-drop 3 file))
-
   pub passes : GoodFile file → ¬ NotVersionOne file × ¬ BadLength file
-  passes g =
-      (is_version_one g.version, is_good_length (omega (arith, g.all)) (omega (arith, g.says)) (omega arith) (omega arith))
+  passes g = grind (arith, common_steps)
 
   pub good : ¬ NotVersionOne file → ¬ BadLength file → GoodFile file
-  good v l =
-      let three : ¬ (length file < 3) = λ h. l (under_three h) in
-      let even : ¬ (said file % 2 ≡ 1) = λ h. l (odd h) in
-      let most : ¬ (17414 < said file) = λ h. l (above h) in
-      let version : get_or file 0 0 ≡ 1 = (Dec.not-not (ℕ_discrete _ _)).0 (λ h. v (first_not_one h)) in
-      let follow : said file ≡ length (following file) = (Dec.not-not (ℕ_discrete _ _)).0 (λ h. l (not_following h)) in
-      let m = length-drop 3 file in
-      let c = counted (omega arith) (omega arith) (omega arith) in
-      record { version = version; all = omega arith; says = omega arith; most = omega arith }
+  good v l = grind (arith, common_steps, counted, first_not_one, under_three, odd, above, not_following)
 
   pub passes_exactly : (¬ NotVersionOne file × ¬ BadLength file) ↔ GoodFile file
   passes_exactly = (λ h. good h.0 h.1, passes)

@@ -1,8 +1,7 @@
 pub mod WordsAndOctets
-pub mod WrittenFront
-pub mod BlockFilled
+pub mod LastBlock
 pub mod GoodFile
-pub mod RowsOfJudged
+pub mod RowsReached
 pub mod Settles
 pub mod Meets
 pub mod GivenExactly

@@ -3,6 +3,7 @@
 use mathlib.Core.Path.{◌≡◌, refl}
 use mathlib.Core.List.{List}
 use Prim.Native.Nat.{ℕ, ◌≤◌}
+use native.Mathlib.Omega.{arith}
 use lib.ListN.{length, take}
 use Rattle.packed.specs.declared.FileAnswer.{FileAnswer}
 use Rattle.packed.specs.declared.FileAnswer.TheVariants.{Done}
@@ -22,18 +23,12 @@ pub unpack_file_of : (ws room : List ℕ) → length ws ≤ 8707 → length ws �
 unpack_file_of ws room g h =
     let p = passes (file_of ws) (file_of_good ws g) in
     let back = words_in_file_of ws in
-    let row : Unpacked (file_of ws) room (Done (length (words_in (file_of ws)))) (over (words_in (file_of ws)) room) =
-    all_words p.0 p.1 (rw back h) in
-    rw back at row
+    grind (arith, all_words)
 
 -- the words of a good file are packed to it
-pub pack_words_in : (file room : List ℕ) → Octets file → GoodFile file → length file ≤ length room →
+pack_words_in : (file room : List ℕ) → Octets file → GoodFile file → length file ≤ length room →
     Packed (words_in file) room (Done (length file)) (over file room)
-pack_words_in file room b g h =
-    let back = file_back file b g in
-    let row : Packed (words_in file) room (Done (length (file_of (words_in file)))) (over (file_of (words_in file)) room) =
-    whole-file g.most (rw back h) in
-    rw back at row
+pack_words_in file room b g h = let back = file_back file b g in grind (arith, whole-file)
 
 pub unpack_of_pack : {ws buf after : List ℕ} {n : ℕ} → Packed ws buf (Done n) after →
     {room then : List ℕ} {r : FileAnswer} → length ws ≤ length room → Unpacked (take n after) room r then →

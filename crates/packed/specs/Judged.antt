@@ -1,5 +1,5 @@
--- What the private function `judge` promises `unpack`: the rows that speak of the file alone, with the number of its words where
--- it passes. Assumes nothing.
+-- What the private function `judge` promises `read_file`: the rows that speak of the file alone, with the number of its words
+-- where it passes. Assumes nothing.
 use Rattle.std.specs.Prelude.{List, ℕ, length}
 use Rattle.packed.specs.declared.FileAnswer.{FileAnswer}
 use Rattle.packed.specs.File.{words_in}

@@ -5,4 +5,3 @@ pub mod Promise
 pub mod SampleFile
 -- What the private functions promise each other; nobody has to believe it.
 pub mod Judged
-pub mod Blocks

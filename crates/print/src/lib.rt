@@ -10,7 +10,7 @@ pub fn text(octets: &[u8]) {
     io::write_all(STDOUT, octets);
 }
 
-// A space, and the number in decimal.
+// A space, and the number in decimal. By `as`: there is no From<usize> for u64.
 pub fn number(n: usize) {
     text(b" ");
     io::print_decimal(STDOUT, n as u64);
@@ -18,14 +18,13 @@ pub fn number(n: usize) {
 
 // The word as a number.
 pub fn word(w: u16) {
-    number(w as usize);
+    number(usize::from(w));
 }
 
+// Each word of a list as a number.
 pub fn words(list: &[u16]) {
-    let mut i = 0;
-    while i < list.len() {
-        word(list[i]);
-        i += 1;
+    for w in list {
+        word(*w);
     }
 }
 

@@ -46,7 +46,8 @@ module _ (words list before : List ℕ) where
   FromEleven g = Gate (StopsAt g list) ((t : List ℕ) × Derives g list t) (λ p. keeping (no_derivation p)) (FromThree g)
 
   abbrev Rows : Grammar → Out → Type 0
-  Rows g = Gate {X = Unit {0}} (λ x. most_numbers < length list) (length list ≤ most_numbers) (λ x. keeping long_list) (FromEleven g)
+  Rows g =
+      Gate {X = Unit {0}} (λ x. most_numbers < length list) (length list ≤ most_numbers) (λ x. keeping long_list) (FromEleven g)
 
   short_unique : (g : Grammar) (n m : ℕ) → Short g n → Short g m → n ≡ m
   short_unique g _ _ (short a h) (short b k) = ap length (derives_unique g a b)

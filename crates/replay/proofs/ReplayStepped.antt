@@ -1,188 +1,210 @@
--- The moves of `replay` one by one, each with the bounds that it keeps and with what it makes of the replay from there on.
+-- The steps of `replay` one by one, each with the bounds that it keeps and with what it makes of the replay from there on.
 -- Assumes nothing.
-use mathlib.Core.Path.{◌≡◌, refl, sym, ap, ◌∙◌, subst}
-use mathlib.Core.List.{List, [], ◌++◌}
-use Prim.Native.Nat.{ℕ, ◌+◌, ◌-◌, ◌≤◌, ◌<◌}
-use native.Mathlib.Omega.{arith}
-use lib.ListN.{length, get_or, drop, length-append}
-use Rattle.grammar.specs.Words.{Grammar, RuleAt, place_of}
-use Rattle.layout.specs.Walk.{count_at}
-use Rattle.layout.proofs.RulePlaces as in_words_lem
-use Rattle.grammar.proofs.RuleNumbers.{rule_number}
+use Rattle.std.proofs.Common.{ℕ, ◌≡◌, ◌+◌, ◌-◌, ◌≤◌, ◌<◌, List, [], ◌∷◌, ◌++◌, length, get_or, take, drop}
+use Rattle.std.proofs.Common.{None, ◌⊎◌, inl, inr, refl, sym, ap, ◌∙◌, subst, arith}
+use Rattle.std.proofs.lemmas.List.{length-append, length-take, length-drop, length-take-le, get_or-take, get_or-drop}
+use Rattle.std.proofs.lemmas.Bool.{cases_lt}
+use Rattle.grammar.specs.Words.{Grammar, RuleAt}
 use Rattle.grammar.specs.Replaying.{derived, stopped, replayed}
 use Rattle.layout.specs.View.{View}
-use Rattle.layout.proofs.RulesInView.{viewed_rule, viewed_left}
-use Rattle.replay.specs.Forms.{side, form_of, waiting_above, behind, Passed, Openable, Opened}
-use Rattle.replay.specs.ReplaySteps.{rest, all_front, to_do, Ground, WithinBounds, Onward}
+use Rattle.layout.specs.Read.{ReadsAs}
+use Rattle.layout.specs.Walk.{count_at}
+use Rattle.grammar.proofs.RuleNumbers.{rule_number}
+use Rattle.grammar.proofs.WordsFew.{words_few}
+use Rattle.layout.proofs.RulePlaces as rule_places
+use Rattle.layout.proofs.RulesByNumber.{right_whole}
+use Rattle.layout.proofs.WordsRead.{begun_of}
+use Rattle.layout.proofs.RulesInView.{viewed_rule, viewed_left, viewed_right}
+use Rattle.replay.specs.Forms.{side, form_of, waiting_above, behind, past, Passed, Openable, Opened}
+use Rattle.replay.specs.ReplaySteps.{words_of, next_number, NextRule, Named, rest, all_front, WithinBounds, Onward}
 use Rattle.replay.specs.declared.forms.Open.{Open}
-use Rattle.replay.proofs.FormSteps.{side_is, side-length, form_first, form_above, form_empty, form_passed}
+use Rattle.replay.specs.declared.forms.Rest.{Rest}
+use Rattle.replay.specs.declared.rule_list.RuleList.{RuleList}
+use Rattle.replay.proofs.FormSteps.{form_first, form_above, form_empty, form_past, Grown, grown}
 use Rattle.replay.proofs.ReplayMoves as moves
 
--- the right side of a rule stands after its count
-module _ {ws places : List ℕ} {n rules : ℕ} {g : Grammar} (view : View ws places n rules g) {k A : ℕ} {w : List ℕ}
-    (r : RuleAt g k A w) where
-  pub counted : count_at ws (get_or places k 0) ≡ length w
-  counted =
-      ap (λ (p : ℕ). count_at ws p) (view.begin k (rule_number r)) ∙ in_words_lem.count_stands ws g view.is k A w r.stands
-
-  right_side : side ws (get_or places k 0 + 2) (count_at ws (get_or places k 0)) ≡ w
-  right_side =
-      ap (λ (m : ℕ). side ws (get_or places k 0 + 2) m) counted ∙
-      ap (λ (p : ℕ). side ws (p + 2) (length w)) (view.begin k (rule_number r)) ∙
-      side_is ws w (place_of g k + 2) (in_words_lem.symbol_stands ws g view.is k A w r.stands)
-
-module _ {ws list stack : List ℕ} {o : Open} (kept : WithinBounds ws list stack o) where
-  abbrev first : ℕ
-  first = get_or ws o.at 0
-
+module _ {l : RuleList} {stack : List Rest} {o : Open} (kept : WithinBounds l stack o) where
   -- the replay of a form that is what is left
-  from : (g : Grammar) {σ : List ℕ} → form_of ws stack o ≡ σ →
-      rest g ws list stack o ≡ replayed g (drop o.next list) o.next σ
-  from g e = ap (replayed g (drop o.next list) o.next) e
+  from : (g : Grammar) {σ : List ℕ} → form_of (words_of l) stack o ≡ σ →
+      rest g l stack o ≡ replayed g (drop o.next l.numbers.now) o.next σ
+  from g e = ap (replayed g (drop o.next l.numbers.now) o.next) e
 
   -- nothing is left
-  pub nothing_stops : (g : Grammar) → o.left ≡ 0 → o.depth ≡ 0 → o.next < length list →
-      rest g ws list stack o ≡ stopped o.next
-  nothing_stops g e d h = from g (form_empty ws stack o e d) ∙ moves.stops_empty g list o.next h
+  pub nothing_stops : (g : Grammar) → o.left ≡ 0 → o.depth ≡ 0 → o.next < length l.numbers.now →
+      rest g l stack o ≡ stopped o.next
+  nothing_stops g e d h = from g (form_empty (words_of l) stack o e d) ∙ moves.stops_empty g l.numbers.now o.next h
 
-  pub nothing_ends : (g : Grammar) → o.left ≡ 0 → o.depth ≡ 0 → length list ≤ o.next → rest g ws list stack o ≡ derived []
-  nothing_ends g e d h = from g (form_empty ws stack o e d) ∙ moves.completes g list o.next h
+  pub nothing_ends : (g : Grammar) → o.left ≡ 0 → o.depth ≡ 0 → length l.numbers.now ≤ o.next → rest g l stack o ≡ derived []
+  nothing_ends g e d h = from g (form_empty (words_of l) stack o e d) ∙ moves.completes g l.numbers.now o.next h
 
   -- a right side is at its end
-  pub back : (g : Grammar) → o.left ≡ 0 → 0 < o.depth →
-      rest g ws list stack o ≡ rest g ws list stack (waiting_above stack o)
-  back g e d = from g (form_above ws stack o e d)
+  module _ (none : o.left ≡ 0) (some : 0 < o.depth) where
+    above : form_of (words_of l) stack o ≡ form_of (words_of l) stack (waiting_above stack o)
+    above = form_above (words_of l) stack o none some (omega (arith, kept.room, kept.waits, kept.used))
 
-  pub back_bounded : o.left ≡ 0 → 0 < o.depth → Onward ws list stack o stack (waiting_above stack o)
-  back_bounded e d =
-      let same = ap length (form_above ws stack o e d) in
-      record {
-        kept = record {
-          room = kept.room;
-          inside = kept.all_inside (o.depth - 1) (omega arith);
-          all_inside = λ i l. kept.all_inside i (omega arith);
-          waits = omega (arith, kept.waits);
-          used = kept.used;
-          few_tokens = omega (arith, kept.few_tokens);
-        };
-        less = omega arith;
-      }
+    pub back : {o' : Open} → o' ≡ waiting_above stack o → (g : Grammar) →
+        (o'.tokens ≡ o.tokens) × (rest g l stack o ≡ rest g l stack o')
+    back e g = rw e (refl, from g above)
 
-  module _ (some : 0 < o.left) where
-    -- a nonterminal, and no number or none that applies
-    module _ {places : List ℕ} {n rules : ℕ} {g : Grammar} (view : View ws places n rules g) (below : first < n) where
-      nonterminal : first < g.N
-      nonterminal = omega (arith, view.nonterminals)
-
-      pub none_left : length list ≤ o.next → rest g ws list stack o ≡ stopped o.next
-      none_left h =
-          from g (form_first ws stack o some) ∙ moves.stops_remaining g list o.next first _ h nonterminal
-
-      -- the next number, k
-      module _ {k : ℕ} (is : k ≡ get_or list o.next 0) (more : o.next < length list) where
-        pub no_rule : rules ≤ k → rest g ws list stack o ≡ stopped o.next
-        no_rule l =
-            from g (form_first ws stack o some) ∙
-            moves.stops_past g list o.next first _ more nonterminal (omega (arith, view.all_rules))
-
-        numbered : {A : ℕ} {w : List ℕ} → RuleAt g k A w → RuleAt g (get_or list o.next 0) A w
-        numbered {A} {w} r = subst (λ (j : ℕ). RuleAt g j A w) is r
-
-        pub other_rule : k < rules → ¬ (get_or ws (get_or places k 0) 0 ≡ first) → rest g ws list stack o ≡ stopped o.next
-        other_rule l ne =
-            let (A, w, r) = viewed_rule view k l in
-            from g (form_first ws stack o some) ∙
-            moves.stops_other g list o.next first A _ w more nonterminal (numbered r) (λ e. ne (viewed_left view r ∙ e))
-
-        pub opens : {stack' : List ℕ} {o' : Open} → k < rules → get_or ws (get_or places k 0) 0 ≡ first →
-            Opened ws (get_or places k 0) stack o stack' o' →
-            (o'.tokens ≡ o.tokens) × (rest g ws list stack o ≡ rest g ws list stack' o')
-        opens {stack'} {o'} l e opened =
-            let (A, w, r) = viewed_rule view k l in
-            let same : A ≡ first = sym (viewed_left view r) ∙ e in
-            let r' = subst (λ (B : ℕ). RuleAt g (get_or list o.next 0) B w) same (numbered r) in
-            let form : w ++ form_of ws stack (behind o) ≡ form_of ws stack' o' =
-            ap (λ (l : List ℕ). l ++ form_of ws stack (behind o)) (sym (right_side view r)) ∙ sym opened.form in (
-              opened.same_tokens,
-              from g (form_first ws stack o some) ∙ moves.opens g list o.next first _ w more r' ∙
-                  ap (replayed g (drop (o.next + 1) list) (o.next + 1)) form ∙
-                  ap (λ (m : ℕ). replayed g (drop m list) m (form_of ws stack' o')) (sym opened.one_more),
-            )
-
-    pub openable : {places : List ℕ} {rules : ℕ} → Ground ws places list rules → (k : ℕ) → k < rules → o.next < length list →
-        Openable ws (get_or places k 0) stack o
-    openable ground k l h = record {
-      some = some;
-      few_words = ground.few_words;
-      few_rules = omega (arith, ground.few_numbers);
-      room = omega (arith, kept.waits, kept.room);
-      inside = kept.inside;
-      all_inside = kept.all_inside;
-      whole = ground.whole k l;
-    }
-
-    pub opens_bounded : {places : List ℕ} {rules : ℕ} → Ground ws places list rules → (k : ℕ) → k < rules →
-        o.next < length list → {stack' : List ℕ} {o' : Open} → Opened ws (get_or places k 0) stack o stack' o' →
-        length stack' ≡ length stack → Onward ws list stack o stack' o'
-    opens_bounded {places} ground k l h opened same_length =
-        let at = get_or places k 0 in
-        let size = ap length (form_first ws stack o some) in
-        let inside = ground.whole k l in
-        let few_words = ground.few_words in
-        let few_tokens = kept.few_tokens in
-        let deeper = opened.deeper in
-        let one_more = opened.one_more in
-        let whole = ap length opened.form in
-        let parts = length-append (side ws (at + 2) (count_at ws at)) (form_of ws stack (behind o)) in
-        let sized = side-length ws (at + 2) (count_at ws at) in
-        record {
+    pub back_bounded : {o' : Open} → o' ≡ waiting_above stack o → Onward l stack o stack o'
+    back_bounded e =
+        let same = ap length above in
+        rw e (record {
           kept = record {
-            room = omega (arith, kept.room);
-            inside = opened.inside;
-            all_inside = opened.all_inside;
+            room = kept.room;
+            inside = kept.all_inside (o.depth - 1) (omega arith);
+            all_inside = λ i h. kept.all_inside i (omega arith);
             waits = omega (arith, kept.waits);
-            used = omega arith;
-            few_tokens = omega (arith, opened.same_tokens);
+            used = kept.used;
+            few_tokens = omega (arith, kept.few_tokens);
           };
           less = omega arith;
+        })
+
+-- what is known of the rules of words that were read
+module _ {ws places : List ℕ} {n rules : ℕ} {g : Grammar} (view : View ws places n rules g) {k : ℕ} (below : k < rules) where
+  pub whole : get_or places k 0 + 2 + count_at ws (get_or places k 0) ≤ length ws
+  whole =
+      let (A, w, r) = viewed_rule view k below in
+      let begin = view.begin k (rule_number r) in
+      let counted = ap (count_at ws) begin ∙ rule_places.count_stands ws g view.is k A w r.stands in
+      omega (arith, begin, counted, rule_places.rule_within ws g view.is k A w r.stands)
+
+  pub right_side : {A : ℕ} {w : List ℕ} → RuleAt g k A w →
+      side ws (get_or places k 0 + 2) (count_at ws (get_or places k 0)) ≡ w
+  right_side r = sym (right_whole ws (get_or places k 0) whole) ∙ viewed_right view r
+
+-- where the next symbol is a nonterminal
+module _ {l : RuleList} {stack : List Rest} {o : Open} (kept : WithinBounds l stack o) (some : 0 < o.left) where
+  abbrev first : ℕ
+  first = get_or (words_of l) o.at 0
+
+  split : form_of (words_of l) stack o ≡ first ∷ form_of (words_of l) stack (behind o)
+  split = form_first (words_of l) stack o some kept.inside
+
+  -- its rule is opened
+  module _ {at : ℕ} (named : Named l o at) where
+    pub openable : Openable (words_of l) at stack o
+    openable =
+        let begun = begun_of l.reading.now in
+        record {
+          some = some;
+          few_words = omega (arith, words_few (words_of l) begun.grammar begun.view.is);
+          few_rules = omega (arith, kept.used, l.few);
+          room = omega (arith, kept.waits, kept.room, named.more);
+          inside = kept.inside;
+          whole = rw named.is (whole begun.view named.below);
         }
 
--- a step back
-pub went_back : {ws list stack : List ℕ} {o o' : Open} → WithinBounds ws list stack o → o.left ≡ 0 → 0 < o.depth →
-    o' ≡ waiting_above stack o → Onward ws list stack o stack o'
-went_back kept h d e = rw e (back_bounded kept h d)
+    module _ {stack' : List Rest} {o' : Open} (opened : Opened (words_of l) at stack o stack' o') where
+      new : Grown (words_of l) at stack o stack' o'
+      new = grown openable kept.all_inside opened
 
-pub goes_back : {ws list stack : List ℕ} {o o' : Open} → WithinBounds ws list stack o → o.left ≡ 0 → 0 < o.depth →
-    o' ≡ waiting_above stack o → (g : Grammar) →
-    (o'.tokens ≡ o.tokens) × (rest g ws list stack o ≡ rest g ws list stack o')
-goes_back kept h d e g = rw e (refl, back kept g h d)
+      pub opens_bounded : Onward l stack o stack' o'
+      opens_bounded =
+          let now = new in
+          let able = openable in
+          let symbols = side (words_of l) (at + 2) (count_at (words_of l) at) in
+          let size = ap length split in
+          let sized = ap length now.form ∙ length-append symbols (form_of (words_of l) stack (behind o)) in
+          let count = length-take (count_at (words_of l) at) (drop (at + 2) (words_of l)) in
+          record {
+            kept = record {
+              room = omega (arith, kept.room, now.same_length);
+              inside = now.inside;
+              all_inside = now.all_inside;
+              waits = omega (arith, kept.waits, now.deeper, now.one_more);
+              used = omega (arith, now.one_more, named.more);
+              few_tokens = omega (arith, kept.few_tokens);
+            };
+            less = omega arith;
+          }
+
+  module _ {g : Grammar} (view : ReadsAs l.reading.now g) (low : first < l.reading.now.nonterminals) where
+    nonterminal : first < g.N
+    nonterminal = omega (arith, view.nonterminals)
+
+    -- by its rule
+    pub opens : {at : ℕ} {stack' : List Rest} {o' : Open} → Named l o at → Opened (words_of l) at stack o stack' o' →
+        (o'.tokens ≡ o.tokens) × (rest g l stack o ≡ rest g l stack' o')
+    opens {at} {stack'} {o'} named opened =
+        let (A, w, r) = viewed_rule view (next_number l o) named.below in
+        let now = new named opened in
+        let same : A ≡ first = sym (viewed_left view r) ∙ named.fits in
+        let rule = subst (λ (B : ℕ). RuleAt g (next_number l o) B w) same r in
+        let symbols : side (words_of l) (at + 2) (count_at (words_of l) at) ≡ w = rw named.is (right_side view named.below r) in
+        let form = ap (λ (t : List ℕ). t ++ form_of (words_of l) stack (behind o)) (sym symbols) ∙ sym now.form in (
+          now.same_tokens,
+          from kept g split ∙ moves.opens g l.numbers.now o.next first _ w named.more rule ∙
+              ap (replayed g (drop (o.next + 1) l.numbers.now) (o.next + 1)) form ∙
+              ap (λ (m : ℕ). replayed g (drop m l.numbers.now) m (form_of (words_of l) stack' o')) (sym now.one_more),
+        )
+
+    -- no number is left, or it names no rule for it
+    pub stuck : NextRule l o None → rest g l stack o ≡ stopped o.next
+    stuck none = from kept g split ∙ more? (cases_lt o.next (length l.numbers.now))
+      where
+        rule? : o.next < length l.numbers.now → (next_number l o < l.reading.now.rules) ⊎ (l.reading.now.rules ≤ next_number l o) →
+            replayed g (drop o.next l.numbers.now) o.next (first ∷ form_of (words_of l) stack (behind o)) ≡ stopped o.next
+        rule? more (inl below) =
+            let (A, w, r) = viewed_rule view (next_number l o) below in
+            moves.stops_other g l.numbers.now o.next first A _ w more nonterminal r
+            (λ e. none more below (viewed_left view r ∙ e))
+        rule? more (inr past) = moves.stops_past g l.numbers.now o.next first _ more nonterminal (omega (arith, view.all_rules))
+
+        more? : (o.next < length l.numbers.now) ⊎ (length l.numbers.now ≤ o.next) →
+            replayed g (drop o.next l.numbers.now) o.next (first ∷ form_of (words_of l) stack (behind o)) ≡ stopped o.next
+        more? (inl more) = rule? more (cases_lt (next_number l o) l.reading.now.rules)
+        more? (inr end) = moves.stops_remaining g l.numbers.now o.next first _ end nonterminal
 
 -- tokens passed
-module _ {ws list stack : List ℕ} {n : ℕ} {o o' : Open} {sentence sentence' : List ℕ} (kept : WithinBounds ws list stack o)
-    (passed : Passed ws n o sentence o' sentence') where
-  pub passes : (g : Grammar) → g.N ≤ n → rest g ws list stack o ≡ all_front passed.ts (rest g ws list stack o')
-  passes g h =
-      from kept g (form_passed ws stack o passed) ∙
-      moves.replayed_tokens g passed.ts (drop o.next list) o.next (form_of ws stack o')
-      (λ i l. omega (arith, passed.all_tokens i l)) ∙
-      ap (λ (m : ℕ). all_front passed.ts (replayed g (drop m list) m (form_of ws stack o'))) (sym passed.same_next)
+module _ {l : RuleList} {stack : List Rest} {o o' : Open} {sentence sentence' : List ℕ} (kept : WithinBounds l stack o)
+    (passed : Passed l.reading.now o sentence o' sentence') where
+  abbrev pub tokens : List ℕ
+  tokens = take passed.count (side (words_of l) o.at o.left)
 
-  passed_size : length (form_of ws stack o) ≡ length passed.ts + length (form_of ws stack o')
-  passed_size = ap length (form_passed ws stack o passed) ∙ length-append passed.ts (form_of ws stack o')
+  long : length (side (words_of l) o.at o.left) ≡ o.left
+  long = length-take-le o.left (drop o.at (words_of l)) (omega (arith, kept.inside, length-drop o.at (words_of l)))
 
-  pub passes_kept : WithinBounds ws list stack o'
+  few : passed.count ≤ o.left
+  few = omega (arith, passed.stored.counted.within, long)
+
+  pub counted : length tokens ≡ passed.count
+  counted = length-take-le passed.count (side (words_of l) o.at o.left) passed.stored.counted.within
+
+  parts : form_of (words_of l) stack o ≡ tokens ++ form_of (words_of l) stack (past o passed.count)
+  parts = form_past (words_of l) stack o passed.count few
+
+  size : length (form_of (words_of l) stack o) ≡ passed.count + length (form_of (words_of l) stack (past o passed.count))
+  size = omega (arith, ap length parts, length-append tokens (form_of (words_of l) stack (past o passed.count)), counted)
+
+  pub passes : {g : Grammar} → ReadsAs l.reading.now g → rest g l stack o ≡ all_front tokens (rest g l stack o')
+  passes {g} view =
+      from kept g parts ∙
+      moves.replayed_tokens g tokens (drop o.next l.numbers.now) o.next (form_of (words_of l) stack (past o passed.count))
+      (λ i h. omega (
+        arith,
+        view.nonterminals,
+        passed.stored.counted.tokens i (omega (arith, counted)),
+        get_or-take passed.count (side (words_of l) o.at o.left) i 0 (omega (arith, counted)),
+      )) ∙
+      ap (λ (p : Open). all_front tokens (rest g l stack p)) (sym passed.is)
+
+  pub passes_kept : WithinBounds l stack o'
   passes_kept =
-      let size = passed_size in
-      let depth = passed.same_depth in
-      let next = passed.same_next in
-      record {
+      rw passed.is (record {
         room = kept.room;
-        inside = omega (arith, kept.inside, passed.same_end);
-        all_inside = λ i l. kept.all_inside i (omega arith);
-        waits = omega (arith, kept.waits);
-        used = omega (arith, kept.used);
-        few_tokens = omega (arith, kept.few_tokens, passed.more_tokens);
-      }
+        inside = omega (arith, kept.inside, few);
+        all_inside = kept.all_inside;
+        waits = kept.waits;
+        used = kept.used;
+        few_tokens = omega (arith, kept.few_tokens, size);
+      })
 
-  pub passes_no_more : to_do ws list stack o' ≤ to_do ws list stack o
-  passes_no_more = omega (arith, passed_size, passed.same_depth, passed.same_next)
+  -- none is in front
+  pub passes_low : 0 < o'.left → get_or (words_of l) o'.at 0 < l.reading.now.nonterminals
+  passes_low = rw passed.is (λ some.
+      let symbols = drop o.at (words_of l) in
+      let stops = passed.stored.counted.stops (omega (arith, long)) in
+      let here = get_or-take o.left symbols passed.count 0 (omega arith) in
+      omega (arith, stops, here, get_or-drop o.at (words_of l) passed.count 0))

@@ -1,6 +1,8 @@
 -- What `replay` answers: every case of document 01, with its number and values. Of the rows that speak of words alone it has 4
 -- only: it "accepts grammars that 5, 6 or 7 would refuse". When a case is given is said by the promise. Assumes nothing.
-use Rattle.std.specs.Prelude.{ℕ}
+use Rattle.std.specs.Prelude.{ℕ, Result, Ok, Err}
+use Rattle.answers.specs.Refusals.{number_of, place_of}
+use Rattle.answers.specs.declared.Refusal.{Refusal}
 use Rattle.replay.specs.declared.ReplayAnswer.{ReplayAnswer}
 use Rattle.replay.specs.declared.ReplayAnswer.TheVariants.{Done, Refused}
 
@@ -23,3 +25,8 @@ answer (broken_layout p) = Refused 4 p
 answer long_list = Refused 12 4096
 answer (no_derivation p) = Refused 11 p
 answer (too_short needed) = Refused 3 needed
+
+-- an outcome as an answer
+abbrev pub told : Result ℕ Refusal → ReplayAnswer
+told (Ok written) = Done written
+told (Err e) = Refused (number_of e) (place_of e)

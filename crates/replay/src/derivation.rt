@@ -1,109 +1,59 @@
 // Replaying a list of rule numbers from the start, without recursion: of the right side that is read, the index of the next
 // symbol and how many symbols are left; the others wait on a stack, which holds at most one for each number of the list.
-ghost use Rattle.std.specs.Prelude.{ℕ, ◌*◌, ◌≤◌, ◌<◌, length, get_or};
+ghost use Rattle.std.specs.Prelude.{◌+◌, ◌≤◌, ◌<◌, length, get_or};
 ghost use Rattle.grammar.specs.Words.{Grammar};
-ghost use Rattle.layout.specs.View.{View};
-ghost use Rattle.replay.specs.ReplaySteps.{Ground, WithinBounds, Bounded, Turned, Ran};
+ghost use Rattle.layout.specs.Read.{ReadsAs};
+ghost use Rattle.replay.specs.ReplaySteps.{words_of, NextRule, WithinBounds, Bounded, Turned, Ran};
 
-use crate::forms::{Open, above, open_rule, pass_tokens};
-use cells::wide;
-use layout::rules;
+use crate::forms::{Open, Rest};
+use crate::rule_list::RuleList;
+use answers::Refusal;
 
-// What a step leads to: more is open; nothing is, and all numbers are used; or the list stops at a place.
-#[derive(Drop)]
-pub enum Move {
-    On(Open),
-    End { tokens: usize },
-    Stop { place: usize },
-}
-
-// What a list comes to: a sentence of so many tokens, or the place where it stops.
-#[derive(Drop)]
-pub enum Outcome {
-    Sentence { tokens: usize },
-    Stopped { place: usize },
-}
-
-// Opens the next symbol, a nonterminal, by the next number; what is left of its right side waits.
-fn expand(
-    words: &[u16],
-    places: &[u16],
-    rules: usize,
-    list: &[u16],
-    form: Open,
-    stack: &mut [u16],
-) -> Move
-    requires { (0 < form.left) × (Ground words.now places.now list.now rules ×
-        WithinBounds words.now list.now stack.old form) }
-    ensures bounded { Bounded words.now list.now stack.old form result
-        stack.new }
-    ensures turned { (g : Grammar) (n : ℕ) → View words.now places.now n rules g →
-        get_or words.now form.at 0 < n →
-        Turned g words.now list.now stack.old form result
-        stack.new }
+// Where the rule stands that the next number names; none where no number is left, or it names no rule for the next symbol.
+fn next_rule(list: &RuleList, form: Open) -> Option<usize>
+    requires { (0 < form.left) × (form.at + form.left ≤ length (words_of list.now)) }
+    ensures { NextRule list.now form result }
 {
-    let next = form.next;
-    if list.len() <= next {
-        return Move::Stop { place: next };
+    let reading = list.reading;
+    let number = *list.numbers.get(form.next)?;
+    if reading.rules <= number {
+        return None;
     }
-    let number = wide(list[next]);
-    if rules <= number {
-        return Move::Stop { place: next };
+    let at = usize::from(reading.places[usize::from(number)]);
+    if reading.words[at] != reading.words[form.at] {
+        return None;
     }
-    let at = rules::index(places, number);
-    let open = form.at;
-    if words[at] != words[open] {
-        return Move::Stop { place: next };
-    }
-    Move::On(open_rule(words, at, form, stack))
+    Some(at)
 }
 
-// Opens the next symbol, which is no token, or goes back to the innermost right side that waits. With nothing left, all numbers
-// are to be used.
-fn step(
-    words: &[u16],
-    places: &[u16],
-    rules: usize,
-    list: &[u16],
-    form: Open,
-    stack: &mut [u16],
-) -> Move
-    requires { Ground words.now places.now list.now rules × WithinBounds words.now list.now stack.old form }
-    ensures bounded { Bounded words.now list.now stack.old form result
-        stack.new }
-    ensures turned { (g : Grammar) (n : ℕ) → View words.now places.now n rules g →
-        (0 < form.left → get_or words.now form.at 0 < n) →
-        Turned g words.now list.now stack.old form result
-        stack.new }
+// Opens the next symbol, which is no token, or goes back to the innermost right side that waits: Some is what is open then. With
+// nothing left it is None, and all numbers are to be used.
+fn step(list: &RuleList, form: Open, stack: &mut [Rest]) -> Result<Option<Open>, Refusal>
+    requires { WithinBounds list.now stack.old form }
+    ensures bounded { Bounded list.now stack.old form result stack.new }
+    ensures turned { (g : Grammar) → ReadsAs list.now.reading.now g →
+        (0 < form.left → get_or (words_of list.now) form.at 0 < list.now.reading.now.nonterminals) →
+        Turned g list.now stack.old form result stack.new }
 {
     if 0 < form.left {
-        return expand(words, places, rules, list, form, stack);
+        let rule = next_rule(list, form).ok_or(Refusal::NoDerivation { place: form.next })?;
+        return Ok(Some(form.open_rule(list.reading.words, rule, stack)));
     }
     if 0 < form.depth {
-        return Move::On(above(form, stack));
+        return Ok(Some(form.above(stack)));
     }
-    if form.next < list.len() {
-        return Move::Stop { place: form.next };
+    if form.next < list.numbers.len() {
+        return Err(Refusal::NoDerivation { place: form.next });
     }
-    Move::End {
-        tokens: form.tokens,
-    }
+    Ok(None)
 }
 
-// Steps from the start, which is the word 2, to the end; the tokens are stored as far as there is room.
-pub fn run(
-    words: &[u16],
-    places: &[u16],
-    n: usize,
-    rules: usize,
-    list: &[u16],
-    stack: &mut [u16],
-    sentence: &mut [u16],
-) -> Outcome
-    requires { Ground words.now places.now list.now rules × ((3 ≤ length words.now) ×
-        (2 * length list.now ≤ length stack.old)) }
-    ensures { (g : Grammar) → View words.now places.now n rules g →
-        Ran g list.now sentence.old result sentence.new }
+// Steps from the start, which is the word 2 and no token, to the end; tokens are passed after each step, and stored as far as there
+// is room. Ok carries their number.
+pub fn run(list: &RuleList, stack: &mut [Rest], sentence: &mut [u16]) -> Result<usize, Refusal>
+    requires { length list.now.numbers.now ≤ length stack.old }
+    ensures { (g : Grammar) → ReadsAs list.now.reading.now g →
+        Ran g list.now.numbers.now sentence.old result sentence.new }
 {
     let mut form = Open {
         at: 2,
@@ -112,18 +62,8 @@ pub fn run(
         next: 0,
         tokens: 0,
     };
-    loop {
-        form = pass_tokens(words, n, form, sentence);
-        match step(words, places, rules, list, form, stack) {
-            Move::On(more) => {
-                form = more;
-            }
-            Move::End { tokens } => {
-                return Outcome::Sentence { tokens };
-            }
-            Move::Stop { place } => {
-                return Outcome::Stopped { place };
-            }
-        }
+    while let Some(more) = step(list, form, stack)? {
+        form = more.pass_tokens(list.reading, sentence);
     }
+    Ok(form.tokens)
 }

@@ -51,28 +51,25 @@ fn main() {
 // Whether the layout of these words is accepted. No later refusal meets them: each nonterminal has a tree and is reached, and
 // totals are small.
 fn layout(name: &[u8], text: &[u8]) {
-    run(name, text, false);
+    run(name, text, |_, _| print::text(b": layout accepted"));
 }
 
 // What the totals of these words are.
 fn totals(name: &[u8], text: &[u8]) {
-    run(name, text, true);
+    run(name, text, print_totals);
 }
 
-fn run(name: &[u8], text: &[u8], with_totals: bool) {
+// Makes the table of these words, and prints what is to be told of both, or the refusal.
+fn run<F: Fn(&[u16], &[u16])>(name: &[u8], text: &[u8], tell: F)
+    requires { F.IsAlwaysCallable tell }
+{
     let mut words = [0; MOST];
-    let count = cases::numbers(text, &mut words);
+    let words = cases::numbers(text, &mut words);
     let mut table = [0; MOST];
-    let answer = tables::tables(&words[0..count], &mut table);
+    let answer = tables::tables(words, &mut table);
     print::text(name);
     match answer {
-        TableAnswer::Done(length) => {
-            if with_totals {
-                print_totals(cases::front(&table, length), entries::length(words[0], 0));
-            } else {
-                print::text(b": layout accepted");
-            }
-        }
+        TableAnswer::Done(length) => tell(words, cases::front(&table, length)),
         TableAnswer::Refused { number, place } => print_refused(number, place),
     }
     print::text(b"\n");
@@ -85,16 +82,16 @@ fn print_refused(number: u16, place: usize) {
     print::number(place);
 }
 
-// The totals of a table, which are its words from an index on.
-fn print_totals(table: &[u16], from: usize) {
-    if table.len() <= from {
+// Whether the totals are all one number: they are the table's last words, after the entries of each nonterminal.
+fn print_totals(words: &[u16], table: &[u16]) {
+    let from = entries::length(words.first().copied().unwrap_or(0), 0);
+    let Some(total) = table.get(from) else {
         print::text(b": no totals");
         return;
-    }
-    let total = table[from];
-    if cases::every(table, from, total) {
+    };
+    if cases::every(table, from, *total) {
         print::text(b": every total");
-        print::word(total);
+        print::word(*total);
     } else {
         print::text(b": totals differ");
     }

@@ -13,8 +13,10 @@ use Rattle.grammar.specs.Terms.{limit}
 use Rattle.entries.specs.Table.{most_table}
 use Rattle.entries.proofs.Main.{table_few}
 use Rattle.grammar.specs.Words.{Grammar, R, Judged, layout, reads, faults}
-use Rattle.layout.specs.Judge.{answer_of}
-use Rattle.layout.specs.declared.judge.LayoutAnswer.TheVariants as layout-answer
+use Rattle.layout.specs.Judge.{shape, fault, answer_of}
+use Rattle.std.specs.Prelude.{Ok, Err}
+use Rattle.layout.specs.declared.judge.Shape.{Shape}
+use Rattle.layout.specs.declared.judge.Fault.{Fault}
 use Rattle.grammar.proofs.LayoutExact.{in_bounds, reads_unique}
 use Rattle.packed.specs.Promise.{Unpacked}
 use Rattle.packed.specs.declared.FileAnswer.TheVariants as file-answer
@@ -56,27 +58,27 @@ module _ {text text' : List ℕ} {past : ℕ} (room : most_line ≤ length text)
       }
 
   -- by what the judge answers
-  pub judged_grammar : (words : List ℕ) {N T S n : ℕ} → answer_of (layout words) ≡ layout-answer.Grammar N T S n →
-      LineWritten (suite_line N T n) text 0 text' past →
+  pub judged_grammar : (words : List ℕ) {s : Shape} → Ok s ≡ answer_of (layout words) →
+      LineWritten (suite_line s.nonterminals s.terminals s.rules) text 0 text' past →
       FirstLine words text' (record { words = length words; count = 0; length = past; over = false })
-  judged_grammar words {N} {T} {S} {n} e w = go (layout words) refl e
+  judged_grammar words {s} e w = go (layout words) refl e
     where
-      go : (j : Judged Grammar) → layout words ≡ j → answer_of j ≡ layout-answer.Grammar N T S n →
+      go : (j : Judged Grammar) → layout words ≡ j → Ok s ≡ answer_of j →
           FirstLine words text' (record { words = length words; count = 0; length = past; over = false })
       go (reads g) is told =
-          let a : g.N ≡ N = cc in
-          let b : g.T ≡ T = cc in
-          let c : R g ≡ n = cc in
-          of_grammar is (suite_line_lem words is (rw (a, b, c) w))
+          let same : s ≡ shape g.N g.T g.start (R g) = cc in
+          of_grammar is (suite_line_lem words is (rw same at w))
       go (faults p) is told = absurd (let z : ◌≡◌ {A = ℕ} 0 1 = cc in omega arith)
 
-pub judged_fault : (words : List ℕ) {text : List ℕ} {so : Piece} {p : ℕ} → answer_of (layout words) ≡ layout-answer.Fault p →
-    OneLine (number (broken_layout p)) p text so → FirstLine words text so
-judged_fault words {text} {so} {p} e line = go (layout words) refl e
+pub judged_fault : (words : List ℕ) {text : List ℕ} {so : Piece} {e : Fault} → Err e ≡ answer_of (layout words) →
+    OneLine (number (broken_layout e.place)) e.place text so → FirstLine words text so
+judged_fault words {text} {so} {e} is line = go (layout words) refl is
   where
-    go : (j : Judged Grammar) → layout words ≡ j → answer_of j ≡ layout-answer.Fault p → FirstLine words text so
+    go : (j : Judged Grammar) → layout words ≡ j → Err e ≡ answer_of j → FirstLine words text so
     go (reads g) is told = absurd (let z : ◌≡◌ {A = ℕ} 0 1 = cc in omega arith)
-    go (faults q) is told = let same : q ≡ p = cc in of_fault (rw same at is) line
+    go (faults q) is told =
+        let same : e ≡ fault q = cc in
+        of_fault is (rw same at line)
 
 -- by what `tables` answers
 pub with_table : {words before after text : List ℕ} {so : Piece} {n : ℕ} → Tables words before (table-answer.Done n) after →

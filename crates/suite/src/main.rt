@@ -15,10 +15,10 @@ ghost use Rattle.suite.specs.Begun.{OneLine, FirstLine, OfWords, TextBegun};
 ghost use Rattle.suite.specs.Filled.{Waits, Filled};
 ghost use Rattle.suite.specs.Pieces.{Clear, Large, FirstPiece, PieceReached, NextPiece, Made};
 
+use answers::Refusal;
 use entries::{LIMIT, MOST_TABLE};
 use handout::NextAnswer;
 use layout::judge;
-use layout::judge::LayoutAnswer;
 use packed::FileAnswer;
 use tables::TableAnswer;
 
@@ -39,8 +39,9 @@ const MOST_RULES: usize = 256;
 const MOST_LINE: usize = 24594;
 
 // How far the text is: how many words the grammar has, how many sentences there were, how many octets of the buffer are the piece,
-// and whether it is the last.
-#[derive(Drop)]
+// and whether it is the last. Flag and lengths stay beside the buffers:
+// the promises of specs/Pieces (SoFar, FirstPiece, NextPiece) are of slices that are long enough, and so are the clauses below.
+#[derive(Clone, Copy, Debug, PartialEq, Eq)]
 struct Piece {
     words: usize,
     count: usize,
@@ -113,10 +114,9 @@ fn next_piece(words: &[u16], table: &[u16], marks: &mut [u8], text: &mut [u8], s
         marks,
         text,
         Piece {
-            words: count,
-            count: so.count,
             length: 0,
             over: false,
+            ..so
         },
     )
 }
@@ -167,7 +167,6 @@ fn answered(
             tokens,
             rules,
         } => Piece {
-            words: so.words,
             count: so.count + 1,
             length: lines::sentence(
                 target,
@@ -177,13 +176,13 @@ fn answered(
                 so.length,
             ),
             over: false,
+            ..so
         },
         NextAnswer::Finished => ended(text, so),
         NextAnswer::Refused { number, place } => Piece {
-            words: so.words,
-            count: so.count,
             length: lines::refused(number, place, text, so.length),
             over: true,
+            ..so
         },
     }
 }
@@ -193,10 +192,9 @@ fn ended(text: &mut [u8], so: Piece) -> Piece
     ensures { LineEnded text.old text.new so result }
 {
     Piece {
-        words: so.words,
-        count: so.count,
         length: lines::end(so.count, text, so.length),
         over: true,
+        ..so
     }
 }
 
@@ -226,18 +224,16 @@ fn of_grammar(words: &[u16], text: &mut [u8]) -> Piece
     ensures { FirstLine words.now text.new result }
 {
     match judge::judge(words) {
-        LayoutAnswer::Grammar {
-            nonterminals,
-            terminals,
-            start: _,
-            rules,
-        } => Piece {
+        Ok(shape) => Piece {
             words: words.len(),
             count: 0,
-            length: lines::suite(nonterminals, terminals, rules, text, 0),
+            length: lines::suite(shape.nonterminals, shape.terminals, shape.rules, text, 0),
             over: false,
         },
-        LayoutAnswer::Fault { place } => refused(answers::BROKEN_LAYOUT, place, text),
+        Err(fault) => {
+            let refusal = Refusal::from(fault);
+            refused(refusal.number(), refusal.place(), text)
+        }
     }
 }
 

@@ -1,6 +1,5 @@
 // The calls. Assumes nothing.
 use cases::UNTOUCHED;
-use table_test::TableTest;
 use tables::TableAnswer;
 
 // More words than a grammar has, and than a table.
@@ -10,28 +9,18 @@ const MOST_ROOM: usize = 1000;
 
 pub fn tables_and_test(case: &[u8]) {
     let mut words = [0; MOST_WORDS];
-    let count = cases::numbers(cases::given(case), &mut words);
+    let words = cases::numbers(cases::given(case), &mut words);
     let mut table = [UNTOUCHED; MOST_ROOM];
-    let room = cases::room(case);
-    lend(&words, count, &mut table, room);
-}
-
-// Lends the front of words and the front of table.
-fn lend(words: &[u16], count: usize, table: &mut [u16], room: usize) {
-    let part = cases::least(room, table.len());
-    run(cases::front(words, count), &mut table[0..part]);
+    run(words, cases::front_mut(&mut table, cases::room(case)));
 }
 
 fn run(words: &[u16], table: &mut [u16]) {
     let answer = tables::tables(words, table);
     print_answer(answer, table);
-    print_test(test(words, table));
-    print_table(answer, words, table);
-}
-
-fn test(words: &[u16], table: &[u16]) -> TableTest {
-    let testing = table_test::test(words, table);
-    testing.answer
+    print_test(words, table);
+    if let TableAnswer::Done(length) = answer {
+        print_table(words, cases::front_mut(table, length));
+    }
 }
 
 // The answer, and whether the table is kept past what was written.
@@ -48,65 +37,39 @@ fn print_answer(answer: TableAnswer, table: &[u16]) {
     }
 }
 
-fn print_test(answer: TableTest) {
-    match answer {
-        TableTest::Its {
-            nonterminals,
-            start,
-            rules,
-        } => {
+// Whether the table is the grammar's own, and then what was read of the words.
+fn print_test(words: &[u16], table: &[u16]) {
+    match table_test::test(words, table) {
+        Some(reading) => {
             print::text(b" its");
-            print::number(nonterminals);
-            print::number(start);
-            print::number(rules);
+            print::word(reading.nonterminals);
+            print::word(reading.start);
+            print::word(reading.rules);
         }
-        TableTest::NotIts => print::text(b" not its"),
+        None => print::text(b" not its"),
     }
 }
 
 // Whether the table that was written is the only one near it that passes the test, and its words.
-fn print_table(answer: TableAnswer, words: &[u16], table: &mut [u16]) {
-    if let TableAnswer::Done(length) = answer {
-        let written = cases::least(length, table.len());
-        print_alone(alone(words, &mut table[0..written]));
-        print::words(&table[0..written]);
-    }
-}
-
-fn print_alone(is_alone: bool) {
-    if is_alone {
+fn print_table(words: &[u16], table: &mut [u16]) {
+    if is_alone(words, table) {
         print::text(b" alone,");
     } else {
         print::text(b" not alone,");
     }
+    print::words(table);
 }
 
 // Whether each table that differs from this one in one word, by one, fails the test.
-fn alone(words: &[u16], table: &mut [u16]) -> bool {
-    let mut i = 0;
-    while i < table.len() {
-        if !fails_changed(words, table, i) {
+fn is_alone(words: &[u16], table: &mut [u16]) -> bool {
+    for at in 0..table.len() {
+        let word = table[at];
+        table[at] = word.wrapping_add(1);
+        let passes = table_test::test(words, table).is_some();
+        table[at] = word;
+        if passes {
             return false;
         }
-        i += 1;
     }
     true
-}
-
-fn fails_changed(words: &[u16], table: &mut [u16], at: usize) -> bool {
-    if table.len() <= at {
-        return false;
-    }
-    let old = table[at];
-    table[at] = std::num::wrapping_add_u16(old, 1);
-    let answer = test(words, table);
-    table[at] = old;
-    match answer {
-        TableTest::NotIts => true,
-        TableTest::Its {
-            nonterminals: _,
-            start: _,
-            rules: _,
-        } => false,
-    }
 }

@@ -7,18 +7,12 @@ mod calls;
 
 fn main() {
     let mut text = [0; cases::MOST_TEXT];
-    let mut rest = cases::read(&mut text);
-    while 0 < rest.len() {
-        run(cases::first_case(rest));
-        let later = cases::later_lines(rest);
-        rest = later;
+    for case in cases::each(cases::read(&mut text)) {
+        run(case);
     }
 }
 
 fn run(case: &[u8]) {
-    if case.len() == 0 {
-        return;
-    }
     print::text(cases::before(case, b':'));
     print::text(b":");
     calls::tables_and_test(case);

@@ -1,19 +1,28 @@
 -- The table that document 01 prints for D, of the definitions themselves, so that a promise that says otherwise is refused here:
 -- with a word behind it it is D's own, and twenty words are not. Assumes nothing.
 use native.Mathlib.Omega.{arith}
-use mathlib.Core.List.{[], ◌∷◌, ◌++◌}
+use mathlib.Core.Path.{◌≡◌, refl, ◌∙◌, ap}
+use mathlib.Core.List.{List, [], ◌∷◌, ◌++◌}
+use Prim.Native.Nat.{ℕ}
 use lib.ListN.{replicate}
+use denote.Ref.{Bor}
+use Rattle.std.specs.Prelude.{Some, None}
+use Rattle.grammar.specs.Words.{layout}
 use Rattle.grammar.specs.Samples.{D_words, D_table}
 use Rattle.grammar.proofs.ASampleOfWords.{D_reads}
 use Rattle.grammar.proofs.LayoutExact.{reads_unique}
 use Rattle.entries.proofs.ASampleOfTables.{D_accepted, D_has_table}
+use Rattle.layout.specs.declared.reading.Reading.{Reading}
 use Rattle.table_test.specs.Promise.{Tested, its, not_its}
-use Rattle.table_test.specs.declared.TableTest.TheVariants.{Its, NotIts}
+use Rattle.layout.proofs.ReadingMade.{reading_of}
 
-pub D_table_its : Tested D_words (D_table ++ 9 ∷ []) (Its 3 0 6)
-D_table_its = its D_reads (D_accepted, D_has_table)
+pub D_table_its : (words : Bor (List ℕ)) → words.now ≡ D_words →
+    (v : Reading) × Tested words (D_table ++ 9 ∷ []) (Some v) × (v.nonterminals ≡ 3) × (v.start ≡ 0) × (v.rules ≡ 6)
+D_table_its words are =
+    let is = ap layout are ∙ D_reads in
+    (reading_of words _ is, its is (D_accepted, D_has_table) refl, refl, refl, refl)
 
-pub twenty_not_its : Tested D_words (replicate 20 9) NotIts
-twenty_not_its = not_its (λ (g, e, own).
-    let long = (rw (reads_unique D_words e D_reads) at own).1.long in
+pub twenty_not_its : (words : Bor (List ℕ)) → words.now ≡ D_words → Tested words (replicate 20 9) None
+twenty_not_its words are = not_its (λ (g, e, own).
+    let long = (rw (reads_unique words.now e (ap layout are ∙ D_reads)) at own).1.long in
     omega arith)

@@ -2,11 +2,9 @@
 -- it meets a proof.
 pub mod ASampleOfTests
 -- The pass over a lent table.
-pub mod Telling
 pub mod PlacesSummed
-pub mod RulesRead
-pub mod ChoicesRead
 pub mod TestsExact
+pub mod RulesRead
 pub mod WordsTested
 -- What the promise settles.
 pub mod TestSettles

@@ -1,80 +1,116 @@
--- What the functions that view the words read of a grammar: at the index of rule k they read rule k. So what is answered of the
--- words at an index is answered of a rule. Assumes nothing.
+-- What the tests of passes are where a reading is of the grammar g: for rule k the functions read rule k. So each test is one of
+-- single entries and of what is read. Assumes nothing.
 use Prim.Native.Nat.{ℕ, ◌≤◌, ◌<◌}
 use native.Mathlib.Omega.{arith}
-use mathlib.Core.Path.{◌≡◌, refl, ap, ◌∙◌}
+use mathlib.Core.Path.{◌≡◌, ap, sym, ◌∙◌}
 use mathlib.Core.Logic.{◌↔◌}
-use mathlib.Core.Bool.{Bool}
 use mathlib.Core.List.{List}
-use lib.ListN.{get_or}
-use Rattle.grammar.specs.Words.{Grammar, RuleAt, InBounds}
+use lib.ListN.{length, get_or}
+use Rattle.grammar.specs.Words.{Grammar, RuleAt}
 use Rattle.grammar.specs.Terms.{limit}
-use Rattle.layout.specs.Rules.{right_at}
-use Rattle.grammar.proofs.LayoutExact.{in_bounds, rule_at, rule_below}
-use Rattle.layout.proofs.RulesByNumber.{left_of_rule, right_of_rule}
-use Rattle.entries.specs.Table.{total_in}
-use Rattle.layout.specs.View.{View}
-use Rattle.table_test.specs.Passes.{Says, PlacesPass, SizePasses, one_fails, all_pass, LeftPasses, RulePasses}
-use Rattle.table_test.proofs.Telling.{says_same}
+use Rattle.grammar.specs.Certificates.{Holds}
+use Rattle.grammar.proofs.ContextsExist.{holds_below, holds_there, held_there}
+use Rattle.grammar.proofs.LayoutExact.{in_bounds}
+use Rattle.grammar.proofs.RuleNumbers.{rule_number}
+use Rattle.entries.specs.Table.{length_for, chosen_in, rule_in, place_in, total_in, Own}
+use Rattle.layout.specs.Read.{ReadsAs}
+use Rattle.layout.specs.declared.reading.Reading.{Reading}
+use Rattle.layout.proofs.RulesInView.{viewed_rule, viewed_left, viewed_right}
+use Rattle.table_test.specs.Passes.{left_of, right_of, size_in, PlacesPass, LeftPasses, RulePasses, RulePassesAt, RulesPass}
+use Rattle.table_test.specs.Passes.{ComesTo, ChosenPasses, ContextPasses, ChoicesPass}
+use Rattle.table_test.proofs.TestsExact.{tests_exact}
 
--- the index that is read for rule k, by a number that is k
-pub index_of : (places : List ℕ) {at j k : ℕ} → at ≡ get_or places j 0 → j ≡ k → at ≡ get_or places k 0
-index_of places e same = e ∙ ap (λ (x : ℕ). get_or places x 0) same
+-- what symbols hold at a place is what is read there
+abbrev ReadAt : List ℕ → ℕ → ℕ → Type 0
+ReadAt w i a = (i < length w) × (get_or w i 0 ≡ a)
 
-module _ {ws places : List ℕ} {n rules : ℕ} {g : Grammar} (view : View ws places n rules g) where
-  pub bounds : InBounds g
-  bounds = in_bounds ws view.is
+holds_read : (w : List ℕ) (i a : ℕ) → Holds w i a ↔ ReadAt w i a
+holds_read w i a = (λ h. (holds_below w i a h, held_there w i a h), λ (l, e). rw e at (holds_there w i l))
 
-  pub below_rules : {k A : ℕ} {w : List ℕ} → RuleAt g k A w → k < rules
-  below_rules {k} {A} {w} r = omega (arith, rule_below g.rules k _ r.stands, view.all_rules)
+module _ (v : Reading) (table : List ℕ) where
+  -- the choice k of a, and where it is a context rule the place i
+  abbrev ChosenRead : ℕ → ℕ → Type 0
+  ChosenRead a k = (k < v.rules) × (left_of v k ≡ a) × ComesTo v.nonterminals table k a
 
-  -- the left side and the right side that are read for rule k
-  abbrev pub left : ℕ → ℕ
-  left k = get_or ws (get_or places k 0) 0
+  abbrev ContextRead : ℕ → ℕ → ℕ → Type 0
+  ContextRead a k i = (k < v.rules) × ReadAt (right_of v k) i a × ComesTo v.nonterminals table k a
 
-  abbrev pub right : ℕ → List ℕ
-  right k = right_at ws (get_or places k 0)
+  -- rule k, whose total is t
+  abbrev RuleRead : Grammar → ℕ → ℕ → Type 0
+  RuleRead g k t =
+      (t ≤ limit) × PlacesPass table v.nonterminals k t (right_of v k) ×
+      LeftPasses table (left_of v k) k (size_in g table (right_of v k)) t
 
-  pub read_left : {k A : ℕ} {w : List ℕ} → RuleAt g k A w → left k ≡ A
-  read_left {k} r = rw (view.begin k (omega (arith, below_rules r, view.all_rules))) (left_of_rule ws g view.is r)
+  abbrev TableRead : Grammar → Type 0
+  TableRead g = (length_for v.nonterminals v.rules ≤ length table) × ChoicesPass g table × RulesPass g table
 
-  pub read_right : {k A : ℕ} {w : List ℕ} → RuleAt g k A w → right k ≡ w
-  read_right {k} r = rw (view.begin k (omega (arith, below_rules r, view.all_rules))) (right_of_rule ws g view.is r)
+module _ (v : Reading) {g : Grammar} (view : ReadsAs v g) where
+  pub below_rules : {k A : ℕ} {w : List ℕ} → RuleAt g k A w → k < v.rules
+  below_rules r = omega (arith, rule_number r, view.all_rules)
 
-  pub read_rule : (k : ℕ) → k < rules → RuleAt g k (left k) (right k)
-  read_rule k l =
-      let (A, w, r) = rule_at bounds k (omega (arith, view.all_rules)) in
-      rw (read_left r, read_right r) r
+  rule_read : (k : ℕ) → k < v.rules → RuleAt g k (left_of v k) (right_of v k)
+  rule_read k l = let (A, w, r) = viewed_rule view k l in rw (viewed_left view r, viewed_right view r) r
 
-  pub read_total : (table : List ℕ) (k : ℕ) → total_in n table k ≡ total_in g.N table k
-  read_total table k = ap (λ (m : ℕ). total_in m table k) view.nonterminals
+  module _ (table : List ℕ) where
+    total_read : (k : ℕ) → total_in v.nonterminals table k ≡ total_in g.N table k
+    total_read k = ap (λ (m : ℕ). total_in m table k) view.nonterminals
 
-  -- what is answered of the words is answered of the rule
-  pub rule_answered : (table : List ℕ) (k t : ℕ) → t ≡ total_in n table k → k < rules → (b : Bool) →
-      Says b (RulePasses g table k t (left k) (right k)) →
-      Says b ((A : ℕ) (w : List ℕ) → RuleAt g k A w → RulePasses g table k (total_in g.N table k) A w)
-  rule_answered table k t e l b = says_same b (to, from)
-    where
-      same : t ≡ total_in g.N table k
-      same = e ∙ read_total table k
+    pub chosen_tests : (a k : ℕ) → k ≡ chosen_in table a → ChosenPasses g table a ↔ ChosenRead v table a k
+    chosen_tests a k is = (to, from)
+      where
+        to : ChosenPasses g table a → ChosenRead v table a k
+        to p = rw is (below_rules p.rule, viewed_left view p.rule, total_read _ ∙ p.total)
 
-      to : RulePasses g table k t (left k) (right k) → (A : ℕ) (w : List ℕ) → RuleAt g k A w →
-          RulePasses g table k (total_in g.N table k) A w
-      to p A w r = rw (same, read_left r, read_right r) at p
+        from : ChosenRead v table a k → ChosenPasses g table a
+        from (l, left, comes) = record {
+          w = right_of v (chosen_in table a);
+          rule = rw (left, is) at (rule_read k l);
+          total = rw is at (sym (total_read k) ∙ comes);
+        }
 
-      from : ((A : ℕ) (w : List ℕ) → RuleAt g k A w → RulePasses g table k (total_in g.N table k) A w) →
-          RulePasses g table k t (left k) (right k)
-      from p = rw same (p (left k) (right k) (read_rule k l))
+    pub context_tests : (a k i : ℕ) → k ≡ rule_in table a → i ≡ place_in table a →
+        ContextPasses g table a ↔ ContextRead v table a k i
+    context_tests a k i is at = (to, from)
+      where
+        to : ContextPasses g table a → ContextRead v table a k i
+        to p =
+            let read = (holds_read _ _ a).0 p.holds in
+            rw (is, at, viewed_right view p.rule) (below_rules p.rule, read, total_read _ ∙ p.total)
 
--- a rule whose total is within the limit passes where its places and its left side do
-module _ {table : List ℕ} {k t : ℕ} {w : List ℕ} where
-  pub places_fail : {n x : ℕ} → SizePasses table n k t w x → x ≡ 0 → ¬ PlacesPass table n k t w
-  places_fail (one_fails h) e = h
-  places_fail (all_pass p l s) e = absurd (omega arith)
+        from : ContextRead v table a k i → ContextPasses g table a
+        from (l, read, comes) = record {
+          B = left_of v (rule_in table a);
+          w = right_of v (rule_in table a);
+          rule = rw is at (rule_read k l);
+          holds = rw (is, at) at ((holds_read (right_of v k) i a).1 read);
+          total = rw is at (sym (total_read k) ∙ comes);
+        }
 
-  pub rule_passes : (g : Grammar) {A x : ℕ} → t ≤ limit → SizePasses table g.N k t w x → ¬ (x ≡ 0) →
-      LeftPasses table A k x t ↔ RulePasses g table k t A w
-  rule_passes g l (one_fails h) d = absurd (d refl)
-  rule_passes g l (all_pass p h size) d =
-      let same = size g refl in
-      (λ left. record { fits = l; places = p; left = rw same at left }, λ r. rw same r.left)
+    pub rule_tests : (k t : ℕ) → k < v.rules → t ≡ total_in v.nonterminals table k → RulePassesAt g table k ↔ RuleRead v table g k t
+    rule_tests k t l is = (to, from)
+      where
+        same : t ≡ total_in g.N table k
+        same = is ∙ total_read k
+
+        to : RulePassesAt g table k → RuleRead v table g k t
+        to p = let here = p _ _ (rule_read k l) in rw (same, view.nonterminals) (here.fits, here.places, here.left)
+
+        from : RuleRead v table g k t → RulePassesAt g table k
+        from (fits, places, left) A w r =
+            let here : RulePasses g table k t (left_of v k) (right_of v k) =
+            record { fits = fits; places = rw view.nonterminals at places; left = left } in
+            rw (same, viewed_left view r, viewed_right view r) at here
+
+    -- ALL TESTS
+    pub table_tests : Own table g ↔ TableRead v table g
+    table_tests = (to, from)
+      where
+        to : Own table g → TableRead v table g
+        to own =
+            let tests = (tests_exact g (in_bounds v.words.now view.is) table).1 own in
+            (omega (arith, tests.long, view.nonterminals, view.all_rules), tests.choices, tests.rules)
+
+        from : TableRead v table g → Own table g
+        from (long, choices, rules) =
+            (tests_exact g (in_bounds v.words.now view.is) table).0
+            (record { long = omega (arith, view.nonterminals, view.all_rules); choices = choices; rules = rules })

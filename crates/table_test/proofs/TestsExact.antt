@@ -18,7 +18,8 @@ use Rattle.grammar.proofs.Dead.{open_reached}
 use Rattle.grammar.proofs.Unique.{total_unique}
 use Rattle.grammar.specs.Certificates.{word_size, Holds, others_size, AreFigures, FigureCertificate}
 use Rattle.grammar.proofs.FigureCertificate.{figure_certificate}
-use Rattle.entries.specs.Table.{table_length, least_in, chosen_in, context_in, rule_in, place_in, total_in, no_choice, HasTable, Own}
+use Rattle.entries.specs.Table.{table_length, least_in, chosen_in, context_in, rule_in, place_in, total_in, no_choice}
+use Rattle.entries.specs.Table.{HasTable, Own}
 use Rattle.entries.specs.TableCertificates.{figures_of}
 use Rattle.entries.proofs.TablePlaces.{least_front, chosen_front, context_front, rule_front, place_front, total_front}
 use Rattle.entries.proofs.SizeApart.{size_apart}

@@ -3,22 +3,18 @@
 -- believe this file; the promises do not cite it.
 -- Below, v A and u A are the least and the context that the table has for A.
 -- Assumes nothing.
-use Rattle.std.specs.Prelude.{ℕ, ◌+◌, ◌≤◌, ◌<◌, ◌≡◌, ◌⊎◌, Bool, true, false, List, length, get_or}
+use Rattle.std.specs.Prelude.{ℕ, ◌+◌, ◌≤◌, ◌<◌, ◌≡◌, ◌⊎◌, ◌↔◌, Bool, IsTrue, List, length, Option, Some, None}
 use Rattle.grammar.specs.Words.{Grammar, RuleAt}
 use Rattle.grammar.specs.Terms.{measure, limit}
-use Rattle.layout.specs.Rules.{right_at}
+pub use Rattle.layout.specs.Sides.{left_of, right_of}
 use Rattle.grammar.specs.Certificates.{word_size, Holds}
 use Rattle.entries.specs.Table.{table_length, least_in, chosen_in, context_in, rule_in, place_in, total_in, no_choice}
-use Rattle.layout.specs.View.{View}
+use Rattle.layout.specs.Read.{ReadsAs}
+use Rattle.layout.specs.declared.reading.Reading.{Reading}
 
--- a test's answer: it holds, or it does not
-abbrev pub Says : Bool → Type 0 → Type 0
-Says true P = P
-Says false P = ¬ P
-
--- a test's answer on words that are a grammar
-abbrev pub Answer : List ℕ → List ℕ → ℕ → ℕ → (Grammar → Type 0) → Bool → Type 0
-Answer ws places n rules P r = (g : Grammar) → View ws places n rules g → Says r (P g)
+-- a test's answer on the grammar that was read
+abbrev pub Answer : Reading → (Grammar → Type 0) → Bool → Type 0
+Answer v P r = (g : Grammar) → ReadsAs v g → IsTrue r ↔ P g
 
 -- The symbol B at place i of rule k, whose total is t: v B + u B is at most t, and where it is t the context rule and place of B
 -- do not come after k and i.
@@ -47,12 +43,12 @@ pub record RulePasses (g : Grammar) (table : List ℕ) (k t A : ℕ) (w : List �
   pub places : PlacesPass table g.N k t w
   pub left : LeftPasses table A k (size_in g table w) t
 
--- what is answered of the rule that stands at an index
-abbrev pub RuleAnswer : List ℕ → ℕ → ℕ → ℕ → ℕ → List ℕ → Bool → Type 0
-RuleAnswer ws at n k t table r = (g : Grammar) → n ≡ g.N → Says r (RulePasses g table k t (get_or ws at 0) (right_at ws at))
+-- rule k, whose total is that of the table
+abbrev pub RulePassesAt : Grammar → List ℕ → ℕ → Type 0
+RulePassesAt g table k = (A : ℕ) (w : List ℕ) → RuleAt g k A w → RulePasses g table k (total_in g.N table k) A w
 
 abbrev pub RulesPass : Grammar → List ℕ → Type 0
-RulesPass g table = (k A : ℕ) (w : List ℕ) → RuleAt g k A w → RulePasses g table k (total_in g.N table k) A w
+RulesPass g table = (k : ℕ) → RulePassesAt g table k
 
 -- the total of rule k, of n nonterminals, is v A + u A
 abbrev pub ComesTo : ℕ → List ℕ → ℕ → ℕ → Type 0
@@ -78,23 +74,24 @@ pub record StartPasses (table : List ℕ) (A : ℕ) : Type 0 where
   pub rule : rule_in table A ≡ no_choice
   pub place : place_in table A ≡ no_choice
 
--- the choices of A, where S is the start
-pub record ChoicePasses (g : Grammar) (S : ℕ) (table : List ℕ) (A : ℕ) : Type 0 where
+-- the choices of A
+pub record ChoicePasses (g : Grammar) (table : List ℕ) (A : ℕ) : Type 0 where
   pub chosen : ChosenPasses g table A
-  pub at_start : A ≡ S → StartPasses table A
-  pub context : ¬ (A ≡ S) → ContextPasses g table A
+  pub at_start : A ≡ g.start → StartPasses table A
+  pub context : ¬ (A ≡ g.start) → ContextPasses g table A
 
-abbrev pub ChoicesPass : Grammar → ℕ → List ℕ → Type 0
-ChoicesPass g S table = (A : ℕ) → A < g.N → ChoicePasses g S table A
+abbrev pub ChoicesPass : Grammar → List ℕ → Type 0
+ChoicesPass g table = (A : ℕ) → A < g.N → ChoicePasses g table A
 
 -- ALL TESTS
 pub record TablePasses (g : Grammar) (table : List ℕ) : Type 0 where
   pub long : table_length g ≤ length table
-  pub choices : ChoicesPass g g.start table
+  pub choices : ChoicesPass g table
   pub rules : RulesPass g table
 
--- What `size_passes` gives for the symbols w of rule k, whose total is t: 0 where a place does not pass, else the size.
-pub data SizePasses (table : List ℕ) (n k t : ℕ) (w : List ℕ) : ℕ → Type 0 where
-  one_fails : ¬ PlacesPass table n k t w → SizePasses table n k t w 0
-  all_pass : {x : ℕ} → PlacesPass table n k t w → 1 ≤ x → ((g : Grammar) → n ≡ g.N → x ≡ size_in g table w) →
-      SizePasses table n k t w x
+-- What `size_passes` gives for rule k, whose total is t: none where a place does not pass, else the size.
+abbrev pub SizePasses : Reading → List ℕ → ℕ → ℕ → Option ℕ → Type 0
+SizePasses v table k t None = ¬ PlacesPass table v.nonterminals k t (right_of v k)
+SizePasses v table k t (Some x) =
+    PlacesPass table v.nonterminals k t (right_of v k) ×
+    ((g : Grammar) → v.nonterminals ≡ g.N → x ≡ size_in g table (right_of v k))

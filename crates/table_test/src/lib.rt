@@ -4,69 +4,20 @@
 
 mod passes;
 
-ghost use Rattle.std.specs.Prelude.{◌≡◌};
-ghost use Rattle.table_test.specs.Promise.{TestPromise, testing_not_its};
+ghost use Rattle.table_test.specs.Promise.{Tested};
 
 use layout::judge;
-use layout::judge::LayoutAnswer;
+use layout::reading::Reading;
 
-// What `test` answers: the words are an accepted grammar and the table is its own, with N, the start and R of the grammar; or not.
-#[derive(Clone, Copy)]
-pub enum TableTest {
-    Its {
-        nonterminals: usize,
-        start: usize,
-        rules: usize,
-    },
-    NotIts,
-}
-
-// What `test` found, and where the rules stand if the table is that of the grammar: the index of each rule's left side, by number,
-// and 0 past the rules. With the other answer all are 0.
-#[derive(Drop)]
-pub struct Testing {
-    pub answer: TableTest,
-    pub places: [u16; 256],
-}
-
-// Whether the words are an accepted grammar and the first words of table are its own. Any words and any table may be lent.
-pub fn test(words: &[u16], table: &[u16]) -> Testing
-    ensures { TestPromise words.now table.now result }
+// What was read of the words, where they are an accepted grammar and the first words of table are its own. Any words and any table
+// may be lent.
+pub fn test<'a>(words: &'a [u16], table: &[u16]) -> Option<Reading<'a>>
+    ensures { Tested words.entry table.now result }
 {
-    let reading = judge::read(words);
-    let answer = reading.answer;
-    match answer {
-        LayoutAnswer::Fault { place: _ } => {
-            return not_its();
-        }
-        LayoutAnswer::Grammar {
-            nonterminals: n,
-            terminals: _,
-            start,
-            rules,
-        } => {
-            if passes::passes(words, &reading.places, n, start, rules, table) {
-                let places = reading.places;
-                return Testing {
-                    answer: TableTest::Its {
-                        nonterminals: n,
-                        start,
-                        rules,
-                    },
-                    places,
-                };
-            }
-            return not_its();
-        }
-    }
-}
-
-// No accepted grammar with its own table: no place is told.
-fn not_its() -> Testing
-    ensures { result ≡ testing_not_its }
-{
-    Testing {
-        answer: TableTest::NotIts,
-        places: [0u16; 256],
+    let reading = judge::read(words).ok()?;
+    if passes::passes(&reading, table) {
+        Some(reading)
+    } else {
+        None
     }
 }

@@ -4,6 +4,7 @@
 -- Nothing is below 0, so the start's figure stays. A rule that is tried lowers nothing more until the figure of its left side
 -- falls, so one that was seen with that figure may be passed over. Where the turn lowers none it changes no context, and the
 -- rule is quiet. What is tried after it, because it lowered one, keeps what is known. Assumes nothing.
+use mathlib.Core.Bool.{Bool, true, false}
 use mathlib.Core.Path.{◌≡◌, refl, sym, ◌∙◌}
 use mathlib.Core.Logic.{inl, inr}
 use mathlib.Core.List.{List, ◌∷◌}
@@ -14,20 +15,22 @@ use lib.ListN.{length, get_or}
 use lib.Seq.{get_or-set_same, get_or-set_other}
 use Rattle.grammar.specs.Words.{Grammar, RuleAt}
 use Rattle.grammar.specs.Terms.{measure}
-use Rattle.layout.specs.Rules.{right_at}
 use Rattle.grammar.specs.Caps.{OfOpen, measure_cap}
 use Rattle.grammar.specs.Certificates.{word_size, Holds, others_size}
 use Rattle.grammar.proofs.AtRest.{place_figure}
 use Rattle.figures.specs.Figures.{no_figure, figure, Has, capped, Lowered, fell, stayed}
 use Rattle.figures.specs.Weights.{Fallen}
-use Rattle.tables.specs.ContextFigures.{LeastsDone, ContextsSound, ContextQuiet}
+use Rattle.tables.specs.ContextFigures.{Grown, LeastsDone, ContextsSound, ContextQuiet}
 use Rattle.tables.specs.ContextSteps.{PlaceStep, skipped, tried, PlacesStep, no_symbol, symbol}
-use Rattle.tables.specs.ContextSteps.{ContextStep, as_seen, unseen, LeastsKnown, Tried, Stands, SeenTurn}
+use Rattle.tables.specs.ContextSteps.{ContextStep, as_seen, unseen, RuleStep, Tried, Stands, KnownOf, SeenTurn}
+use Rattle.tables.specs.declared.contexts.Contexts.{Contexts}
 use Rattle.entries.proofs.SizeApart.{size_apart}
-use Rattle.tables.proofs.ContextsFall.{place_length, places_no_higher, context_fallen, context_no_higher}
+use Rattle.tables.proofs.ContextsFall.{place_length, places_no_higher, context_length, context_fallen, context_no_higher}
 use Rattle.figures.proofs.FiguresKept.{lowered_no_higher, lowered_known}
-use Rattle.layout.specs.View.{View}
 use Rattle.layout.proofs.RulesInView.{viewed_rule, viewed_left, viewed_right, viewed_room}
+use Rattle.leasts.specs.declared.FoundLeasts.{FoundLeasts}
+use Rattle.std.specs.Int.{from_bool}
+use Rattle.std.specs.Prelude.{Option, Some, None, IfSome}
 
 abbrev OpenCut : Grammar → ℕ → ℕ → Type 0
 OpenCut g A y = OfOpen measure measure_cap g A y
@@ -168,113 +171,89 @@ module _ {n size k B : ℕ} {vs w us us' seen seen' : List ℕ} {f : ℕ} (step 
       })
 
 -- A TURN, as the functions read the rule
-module _ {ws places sizes vs : List ℕ} {n rules : ℕ} {g : Grammar} (known : LeastsKnown ws places n rules sizes vs g) where
-  turn_alone : {k f : ℕ} {us us' seen seen' : List ℕ} → k < rules → 128 ≤ length us →
-      ContextStep n (get_or sizes k 0) vs k (get_or ws (get_or places k 0) 0) (right_at ws (get_or places k 0)) us seen us' seen' f →
-      SeenTurn g vs k us seen us' seen' f
-  turn_alone {k} {f} {us} {us'} {seen} {seen'} h long step = record {
-    keeps = keeps (viewed_rule view k h);
-    still = still (viewed_rule view k h);
-  }
+module _ {found : FoundLeasts} {k f : ℕ} {before after : Contexts} (h : k < found.reading.rules)
+    (long : 128 ≤ length before.figures) (step : RuleStep found k before after f) (grown : Grown found) where
+  open grown use {grammar, view}
+
+  room : grammar.N ≤ length before.figures
+  room = viewed_room view long
+
+  step_of : {B : ℕ} {w : List ℕ} → RuleAt grammar k B w → ContextStep grammar.N (get_or found.sizes k 0) found.leasts k B w
+      before.figures before.seen after.figures after.seen f
+  step_of r = rw (viewed_left view r, viewed_right view r, view.nonterminals) at step
+
+  of_seen : KnownOf grown before → (j C : ℕ) (u : List ℕ) → RuleAt grammar j C u → Has after.seen j →
+      Tried grammar found.leasts after.figures C u (figure after.seen j)
+  of_seen stands j C u q has = go (ℕ_discrete j k)
     where
-      view : View ws places n rules g
-      view = known.view
+      go : Dec (j ≡ k) → Tried grammar found.leasts after.figures C u (figure after.seen j)
+      go (yes e) =
+          let own : RuleAt grammar k C u = rw e at q in
+          rw e (step_tried own (grown.sizes_are k C u own) room stands (step_of own) (rw e at has))
+      go (no d) = others_tried step stands j C u d q has
 
-      room : g.N ≤ length us
-      room = viewed_room view long
-
-      step_of : {B : ℕ} {w : List ℕ} → RuleAt g k B w → ContextStep g.N (get_or sizes k 0) vs k B w us seen us' seen' f
-      step_of r = rw (viewed_left view r, viewed_right view r, view.nonterminals) at step
-
-      of_seen : Stands g vs us seen → (j C : ℕ) (u : List ℕ) → RuleAt g j C u → Has seen' j → Tried g vs us' C u (figure seen' j)
-      of_seen stands j C u q has = go (ℕ_discrete j k)
-        where
-          go : Dec (j ≡ k) → Tried g vs us' C u (figure seen' j)
-          go (yes e) =
-              let own : RuleAt g k C u = rw e at q in
-              rw e (step_tried own (known.sized k C u own) room stands (step_of own) (rw e at has))
-          go (no d) = others_tried step stands j C u d q has
-
-      keeps : (B : ℕ) × (w : List ℕ) × RuleAt g k B w → Stands g vs us seen → Stands g vs us' seen'
-      keeps (B, w, r) stands = record {
-        sound = step_sound r (known.sized k B w r) room stands known.done (step_of r);
+  rule_keeps : KnownOf grown before → KnownOf grown after
+  rule_keeps stands =
+      let (B, w, r) = viewed_rule view k h in
+      record {
+        sound = step_sound r (grown.sizes_are k B w r) room stands grown.leasts (step_of r);
         of_seen = of_seen stands;
       }
 
-      still : (B : ℕ) × (w : List ℕ) × RuleAt g k B w → f ≡ 0 → Stands g vs us seen → (us' ≡ us) × ContextQuiet g vs us k
-      still (B, w, r) e stands = (
-        (step_still r (known.sized k B w r) room stands (step_of r) e).0,
-        λ C u q. (step_still q (known.sized k C u q) room stands (step_of q) e).1,
+  rule_still : f ≡ 0 → KnownOf grown before →
+      (after.figures ≡ before.figures) × ContextQuiet grammar found.leasts before.figures k
+  rule_still e stands =
+      let (B, w, r) = viewed_rule view k h in (
+        (step_still r (grown.sizes_are k B w r) room stands (step_of r) e).0,
+        λ C u q. (step_still q (grown.sizes_are k C u q) room stands (step_of q) e).1,
       )
 
-  -- the left side of a rule has a place among the contexts
-  pub left_room : {B k at m : ℕ} → k < rules → 128 ≤ m → at ≡ get_or places k 0 → B ≡ get_or ws at 0 → B < m
-  left_room {B} {k} {m = m} h long is e = go (viewed_rule known.view k h)
-    where
-      left : B ≡ get_or ws (get_or places k 0) 0
-      left = rw is at e
+-- A TURN of rule k so far, and the rule that is next: k itself where nothing fell yet
+pub record Followed (found : FoundLeasts) (k : ℕ) (before after : Contexts) (f : Bool) (next : Option ℕ) : Type 0 where
+  pub below : IfSome next (λ r. r < found.reading.rules)
+  pub same_length : length after.figures ≡ length before.figures
+  pub fallen : Fallen before.figures after.figures (from_bool f)
+  pub first : f ≡ false → (after ≡ before) × (next ≡ Some k)
+  pub keeps : (grown : Grown found) → KnownOf grown before → KnownOf grown after
 
-      go : (C : ℕ) × (w : List ℕ) × RuleAt g k C w → B < m
-      go (C, w, r) = omega (arith, left, viewed_left known.view r, r.left, viewed_room known.view long)
-
--- A TURN of rule k so far, from the contexts us to us', and what is seen: rule r is next, and it is k itself where nothing fell yet
-pub record ContextsFollowed (ws places : List ℕ) (n rules : ℕ) (sizes vs : List ℕ) (k : ℕ) (us seen us' seen' : List ℕ) (f r : ℕ) :
-    Type 0 where
-  pub same_length : length us' ≡ length us
-  pub same_seen : length seen' ≡ length seen
-  pub fallen : Fallen us us' f
-  pub once : f ≤ 1
-  pub first : f ≡ 0 → (us' ≡ us) × (seen' ≡ seen) × (r ≡ k)
-  pub keeps : (g : Grammar) → LeastsKnown ws places n rules sizes vs g → Stands g vs us seen → Stands g vs us' seen'
-
-module _ {ws places : List ℕ} {n rules : ℕ} {sizes vs : List ℕ} where
-  pub followed_none : {k : ℕ} (us seen : List ℕ) → ContextsFollowed ws places n rules sizes vs k us seen us seen 0 k
-  followed_none us seen = record {
+module _ {found : FoundLeasts} where
+  pub followed_none : {k : ℕ} (contexts : Contexts) → k < found.reading.rules → Followed found k contexts contexts false (Some k)
+  followed_none contexts h = record {
+    below = h;
     same_length = refl;
-    same_seen = refl;
     fallen = omega arith;
-    once = omega arith;
-    first = λ e. (refl, refl, refl);
-    keeps = λ g known s. s;
+    first = λ e. (refl, refl);
+    keeps = λ grown s. s;
   }
 
-  module _ {k B r at f m size : ℕ} {w us us' us'' seen seen' seen'' : List ℕ}
-      (so_far : ContextsFollowed ws places n rules sizes vs k us seen us' seen' f r) (h : r < rules) (long : 128 ≤ length us')
-      (found : at ≡ get_or places r 0) (e : B ≡ get_or ws at 0) (e' : w ≡ right_at ws at) (e'' : size ≡ get_or sizes r 0)
-      (step : ContextStep n size vs r B w us' seen' us'' seen'' m) where
-    turn_of : (g : Grammar) → LeastsKnown ws places n rules sizes vs g → SeenTurn g vs r us' seen' us'' seen'' m
-    turn_of g known = turn_alone known h long (rw (e, e', e'', found) at step)
-
-    -- the next rule lowers a figure
-    pub followed_more : (s : ℕ) → length us'' ≡ length us' → length seen'' ≡ length seen' → ¬ (m ≡ 0) →
-        ContextsFollowed ws places n rules sizes vs k us seen us'' seen'' 1 s
-    followed_more s same same' some = record {
-      same_length = same ∙ so_far.same_length;
-      same_seen = same' ∙ so_far.same_seen;
+  module _ {k r m : ℕ} {f : Bool} {before now after : Contexts} (so_far : Followed found k before now f (Some r))
+      (long : 128 ≤ length now.figures) (step : RuleStep found r now after m) where
+    -- rule r lowers a context, and there may be a next rule
+    pub followed_more : {next : Option ℕ} → ¬ (m ≡ 0) → IfSome next (λ s. s < found.reading.rules) →
+        Followed found k before after true next
+    followed_more some below = record {
+      below = below;
+      same_length = context_length step ∙ so_far.same_length;
       fallen = omega (arith, so_far.fallen, context_fallen step);
-      once = omega arith;
-      first = λ z. absurd (omega arith);
-      keeps = λ g known stands. (turn_of g known).keeps (so_far.keeps g known stands);
+      first = λ z. absurd cc;
+      keeps = λ grown s. rule_keeps so_far.below long step grown (so_far.keeps grown s);
     }
 
-    -- the next rule lowers none
-    pub followed_end : m ≡ 0 → (f ≤ 1) × Fallen us us'' f
-    followed_end none = (so_far.once, omega (arith, so_far.fallen, context_fallen step))
-
-    pub followed_turn : m ≡ 0 → (g : Grammar) → LeastsKnown ws places n rules sizes vs g → SeenTurn g vs k us seen us'' seen'' f
-    followed_turn none g known = record {
-      keeps = λ stands. (turn_of g known).keeps (so_far.keeps g known stands);
-      still = λ z stands.
-          let (same, same', is) = so_far.first z in
-          let (still, quiet) = (turn_of g known).still none (so_far.keeps g known stands) in
-          (still ∙ same, rw (same, is) at quiet);
+    -- rule r lowers none
+    pub followed_turn : m ≡ 0 → SeenTurn found k before after f
+    followed_turn none = record {
+      fallen = omega (arith, so_far.fallen, context_fallen step);
+      keeps = λ grown s. rule_keeps so_far.below long step grown (so_far.keeps grown s);
+      still = λ grown z s.
+          let (same, is) = so_far.first z in
+          let own : r ≡ k = cc in
+          rw (same, own) at (rule_still so_far.below long step grown none (so_far.keeps grown s));
     }
 
   -- there is no next rule
-  pub followed_out : {k f r : ℕ} {us us' seen seen' : List ℕ} →
-      ContextsFollowed ws places n rules sizes vs k us seen us' seen' f r → k < rules → rules ≤ r →
-      (g : Grammar) → LeastsKnown ws places n rules sizes vs g → SeenTurn g vs k us seen us' seen' f
-  followed_out so_far h past g known = record {
-    keeps = so_far.keeps g known;
-    still = λ z stands. let (same, same', is) = so_far.first z in absurd (omega arith);
+  pub followed_out : {k : ℕ} {f : Bool} {before after : Contexts} → Followed found k before after f None → SeenTurn found k before after f
+  followed_out so_far = record {
+    fallen = so_far.fallen;
+    keeps = so_far.keeps;
+    still = λ grown z s. let (same, is) = so_far.first z in absurd (cc);
   }

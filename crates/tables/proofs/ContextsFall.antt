@@ -1,7 +1,7 @@
 -- Contexts fall: what a rule does to the contexts raises none and lowers the sum of the array's words; a symbol lowers at most
 -- one word, and keeps the array's length. Assumes nothing.
 use Prim.Native.Nat.{ℕ, ◌≤◌}
-use mathlib.Core.Path.{◌≡◌, refl}
+use mathlib.Core.Path.{◌≡◌, refl, ◌∙◌}
 use mathlib.Core.List.{List}
 use native.Mathlib.Omega.{arith}
 use lib.ListN.{length}
@@ -28,6 +28,10 @@ module _ {n whole : ℕ} {vs : List ℕ} where
   place_length (skipped h) = refl
   place_length (tried h l d) = lowered_length d
 
+  pub places_length : {w us us' : List ℕ} {f : ℕ} → PlacesStep n whole vs w us us' f → length us' ≡ length us
+  places_length no_symbol = refl
+  places_length (symbol p ps) = places_length ps ∙ place_length p
+
   places_fallen : {w us us' : List ℕ} {f : ℕ} → PlacesStep n whole vs w us us' f → Fallen us us' f
   places_fallen no_symbol = omega arith
   places_fallen (symbol p ps) = omega (arith, place_fallen p, places_fallen ps)
@@ -41,6 +45,10 @@ module _ {n whole : ℕ} {vs : List ℕ} where
   places_no_higher (symbol p ps) A = omega (arith, place_no_higher p A, places_no_higher ps A)
 
 module _ {n size k B : ℕ} {vs w : List ℕ} where
+  pub context_length : {f : ℕ} {us us' seen seen' : List ℕ} → ContextStep n size vs k B w us seen us' seen' f → length us' ≡ length us
+  context_length (as_seen e) = refl
+  context_length (unseen room small differs ps) = places_length ps
+
   pub context_fallen : {f : ℕ} {us us' seen seen' : List ℕ} → ContextStep n size vs k B w us seen us' seen' f → Fallen us us' f
   context_fallen (as_seen e) = omega arith
   context_fallen (unseen room small differs ps) = places_fallen ps

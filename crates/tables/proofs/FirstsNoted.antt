@@ -1,69 +1,60 @@
--- Choices by notes: where candidates are looked at in the order of their numbers, and a number is noted only where there is none
--- yet, the numbers that stand are the first that fit. Whatever it is for a number to fit a nonterminal (P). Assumes nothing.
+-- Choices by notes: where candidates are looked at in the order of their ranks, and one is noted only where there is none yet,
+-- those that stand are the first that fit. Whatever a candidate is, and its rank, and what it is for one to fit a nonterminal (P).
+-- Assumes nothing.
 use mathlib.Core.Path.{◌≡◌, refl}
-use mathlib.Core.List.{List, [], ◌∷◌}
-use Prim.Native.Nat.{ℕ, zero, suc, ◌+◌, ◌≤◌, ◌<◌}
+use mathlib.Core.List.{List}
+use Prim.Native.Nat.{ℕ, ◌+◌, ◌≤◌, ◌<◌}
 use native.Mathlib.Omega.{arith}
 use native.Mathlib.Decide.{dec_lt, ℕ_discrete}
-use lib.ListN.{length, get_or, get_or-replicate, length-replicate}
+use lib.ListN.{length, replicate, get_or-replicate}
 use lib.Seq.{get_or-set_same, get_or-set_other}
-use Rattle.entries.specs.Table.{no_choice}
-use Rattle.tables.specs.Choices.{choice, NoChoices, FirstBelow, none_has, first, Noted, noted, kept}
+use Rattle.std.specs.Prelude.{Option, Some, None}
+use Rattle.tables.specs.Choices.{choice, FirstBelow, none_has, first, Noted, noted, kept}
 
--- a choice that has a place is the word there, whatever stands for none
-pub choice_is : (xs : List ℕ) (a d : ℕ) → a < length xs → get_or xs a d ≡ choice xs a
-choice_is [] a d h = absurd (omega arith)
-choice_is (x ∷ xs) zero d h = refl
-choice_is (x ∷ xs) (suc a) d h = choice_is xs a d (omega arith)
-
-module _ {P : ℕ → Type 0} {n : ℕ} where
-  -- the numbers that follow do not fit
-  first_past : {x : ℕ} → FirstBelow P n x → (m : ℕ) → n ≤ m → ((q : ℕ) → n ≤ q → q < m → ¬ P q) → FirstBelow P m x
-  first_past (none_has unfit) m l past = none_has (λ q h. split q h (dec_lt q n))
+module _ {C : Type 0} {rank : C → ℕ} {P : C → Type 0} {n : ℕ} where
+  -- those that follow do not fit
+  first_past : {o : Option C} → FirstBelow rank P n o → (m : ℕ) → n ≤ m → ((y : C) → n ≤ rank y → rank y < m → ¬ P y) →
+      FirstBelow rank P m o
+  first_past (none_has unfit) m l past = none_has (λ y h. split y h (dec_lt (rank y) n))
     where
-      split : (q : ℕ) → q < m → Dec (q < n) → ¬ P q
-      split q h (yes low) = unfit q low
-      split q h (no high) = past q (omega arith) h
-  first_past (first {k} h fits unfit) m l past = first {k = k} (omega arith) fits unfit
+      split : (y : C) → rank y < m → Dec (rank y < n) → ¬ P y
+      split y h (yes low) = unfit y low
+      split y h (no high) = past y (omega arith) h
+  first_past (first h fits unfit) m l past = first (omega arith) fits unfit
 
   -- there is one already
-  first_stays : {x : ℕ} → FirstBelow P n x → ¬ (x ≡ no_choice) → FirstBelow P (n + 1) x
+  first_stays : {o : Option C} → FirstBelow rank P n o → ¬ (o ≡ None) → FirstBelow rank P (n + 1) o
   first_stays (none_has unfit) has = absurd (has refl)
-  first_stays (first {k} h fits unfit) has = first {k = k} (omega arith) fits unfit
+  first_stays (first h fits unfit) has = first (omega arith) fits unfit
 
-  -- there is none, and the next number fits
-  first_found : {x : ℕ} → FirstBelow P n x → x ≡ no_choice → n < no_choice → P n → FirstBelow P (n + 1) n
-  first_found (none_has unfit) none small fits = first {k = n} (omega arith) fits unfit
-  first_found (first h f unfit) none small fits = absurd (omega arith)
+  -- there is none, and the next fits
+  first_found : {o : Option C} {x : C} → FirstBelow rank P n o → o ≡ None → rank x ≡ n → P x →
+      FirstBelow rank P (n + 1) (Some x)
+  first_found (none_has unfit) none is fits = first (omega arith) fits (λ y l. unfit y (omega arith))
+  first_found (first h f unfit) none is fits = cc
 
-pub empty_room : (xs : List ℕ) → NoChoices xs → length xs ≡ 128
-empty_room xs empty = rw empty (length-replicate {A = ℕ} 128 no_choice)
-
-module _ (P : ℕ → ℕ → Type 0) (N : ℕ) where
-  abbrev Firsts : List ℕ → ℕ → Type 0
-  Firsts xs n = (A : ℕ) → A < N → FirstBelow (P A) n (choice xs A)
+module _ {C : Type 0} (rank : C → ℕ) (P : ℕ → C → Type 0) (N : ℕ) where
+  abbrev Firsts : List (Option C) → ℕ → Type 0
+  Firsts xs n = (A : ℕ) → A < N → FirstBelow rank (P A) n (choice xs A)
 
   -- at the outset there is none
-  pub firsts_empty : (xs : List ℕ) → NoChoices xs → N ≤ 128 → Firsts xs 0
-  firsts_empty xs empty h A l =
-      let e : choice xs A ≡ no_choice = rw empty (get_or-replicate 128 A no_choice no_choice (omega arith)) in
-      rw e (none_has (λ k h. absurd (omega arith)))
+  pub firsts_empty : N ≤ 128 → Firsts (replicate 128 None) 0
+  firsts_empty h A l = rw (get_or-replicate {A = Option C} 128 A None None (omega arith)) (none_has (λ y low. absurd (omega arith)))
 
-  pub firsts_past : (xs : List ℕ) {n : ℕ} → Firsts xs n → (m : ℕ) → n ≤ m →
-      ((A q : ℕ) → A < N → n ≤ q → q < m → ¬ P A q) → Firsts xs m
-  firsts_past xs so_far m h past A l = first_past (so_far A l) m h (λ q. past A q l)
+  pub firsts_past : (xs : List (Option C)) {n : ℕ} → Firsts xs n → (m : ℕ) → n ≤ m →
+      ((A : ℕ) (y : C) → A < N → n ≤ rank y → rank y < m → ¬ P A y) → Firsts xs m
+  firsts_past xs so_far m h past A l = first_past (so_far A l) m h (λ y. past A y l)
 
-  -- the number n fits a and nothing else, and is noted at a
-  pub firsts_noted : {xs ys : List ℕ} {a n : ℕ} → Noted xs a n ys → N ≤ length xs → n < no_choice → P a n →
-      ((A : ℕ) → P A n → A ≡ a) → Firsts xs n → Firsts ys (n + 1)
-  firsts_noted {xs} {ys} {a} {n} z room small fits only so_far A l = go (ℕ_discrete A a) z
+  -- x has rank n, fits a, and is noted there; what has that rank fits a alone
+  pub firsts_noted : {xs ys : List (Option C)} {a n : ℕ} {x : C} → Noted xs a x ys → N ≤ length xs → rank x ≡ n → P a x →
+      ((A : ℕ) (y : C) → rank y ≡ n → P A y → A ≡ a) → Firsts xs n → Firsts ys (n + 1)
+  firsts_noted {xs} {ys} {a} {n} {x} z room is fits only so_far A l = go (ℕ_discrete A a) z
     where
-      others : ¬ (A ≡ a) → FirstBelow (P A) (n + 1) (choice xs A)
-      others d =
-          first_past (so_far A l) (n + 1) (omega arith) (λ q low high f. let e : q ≡ n = omega arith in d (only A (rw e at f)))
+      others : ¬ (A ≡ a) → FirstBelow rank (P A) (n + 1) (choice xs A)
+      others d = first_past (so_far A l) (n + 1) (omega arith) (λ y low high f. d (only A y (omega arith) f))
 
-      go : {us : List ℕ} → Dec (A ≡ a) → Noted xs a n us → FirstBelow (P A) (n + 1) (choice us A)
-      go (yes e) (noted h none) = rw (e, get_or-set_same xs a n no_choice h) (first_found (rw e at (so_far A l)) none small fits)
+      go : {us : List (Option C)} → Dec (A ≡ a) → Noted xs a x us → FirstBelow rank (P A) (n + 1) (choice us A)
+      go (yes e) (noted h none) = rw (e, get_or-set_same xs a (Some x) None h) (first_found (rw e at (so_far A l)) none is fits)
       go (yes e) (kept has) = first_stays (so_far A l) (rw e (has (omega arith)))
-      go (no d) (noted h none) = rw (get_or-set_other xs a A n no_choice d) (others d)
+      go (no d) (noted h none) = rw (get_or-set_other xs a A (Some x) None d) (others d)
       go (no d) (kept has) = others d

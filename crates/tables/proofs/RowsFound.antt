@@ -4,11 +4,10 @@
 -- (CappedTotals). Assumes nothing.
 use Prim.Native.Nat.{ℕ, ◌+◌, ◌≤◌, ◌<◌}
 use native.Mathlib.Omega.{arith}
-use native.Mathlib.Decide.{dec_lt, ℕ_discrete}
+use native.Mathlib.Decide.{dec_lt}
 use mathlib.Core.Path.{◌≡◌, refl, sym, ap, ◌∙◌}
 use mathlib.Core.List.{List}
-use lib.ListN.{length, set, get_or-replicate, length-replicate}
-use lib.Seq.{get_or-set_same, get_or-set_other}
+use lib.ListN.{length}
 use Rattle.grammar.specs.Words.{Grammar, RuleAt, R, InBounds}
 use Rattle.grammar.specs.Terms.{measure, limit}
 use Rattle.grammar.specs.Tree.{Tree}
@@ -18,17 +17,16 @@ use Rattle.grammar.specs.Refusals.{Lowest, NoTree, AllTrees, Unreached, AllReach
 use Rattle.grammar.proofs.LayoutExact.{rule_at}
 use Rattle.grammar.proofs.RuleNumbers.{rule_number}
 use Rattle.grammar.proofs.Dead.{open_reached}
-use Rattle.grammar.specs.Caps.{OfOpen, CappedFigures, stopped_total, ContextsAtRest, ceiling, measure_cap}
+use Rattle.grammar.specs.Caps.{CappedFigures, stopped_total, ContextsAtRest, ceiling, measure_cap}
 use Rattle.grammar.proofs.CappedLeasts.{certificate_trees, capped_certificate}
 use Rattle.grammar.proofs.LeastsExist.{leasts_exist}
 use Rattle.grammar.proofs.Unique.{least_unique}
-use Rattle.grammar.proofs.CappedContexts.{certificate_reached, start_figure}
+use Rattle.grammar.proofs.CappedContexts.{certificate_reached}
 use Rattle.grammar.proofs.CappedTotals.{oversize_exact, fits_exact}
 use Rattle.grammar.proofs.AtRest.{rest_context_certificate, no_figure_unreached}
-use Rattle.figures.specs.declared.Found.TheVariants.{At, Nothing}
-use Rattle.figures.specs.Figures.{no_figure, figure, Has, capped, FirstAbove, found_at, found_none}
-use Rattle.tables.specs.ContextFigures.{LeastsDone, SizesOf, ContextsSound, ContextsRest, TotalsOf, NoFigures}
-use Rattle.tables.specs.Rows.{ContextsDone}
+use Rattle.std.specs.Prelude.{Some, None}
+use Rattle.figures.specs.Figures.{figure, Has, capped, FirstAbove, found_at, found_none}
+use Rattle.tables.specs.ContextFigures.{LeastsDone, SizesOf, ContextsRest, ContextsDone, TotalsOf}
 use Rattle.figures.proofs.FiguresFall.{figure_is}
 use Rattle.leasts.specs.Promise.{LeastFigure, of_tree, no_tree, SizeFigure, of_trees, no_trees, FiguresOf}
 
@@ -41,24 +39,6 @@ lowest_where {P} {a} p none = record { such = p; lowest = λ m q. go m q (dec_lt
     go m q (no l) = omega arith
 
 module _ (g : Grammar) where
-  -- AT THE OUTSET the start alone has a context, which is 0
-  pub contexts_begin : (xs : List ℕ) → g.N ≤ 128 → g.start < g.N → NoFigures xs → ContextsSound g (set xs g.start 0)
-  contexts_begin xs few within e = record { start = at_start; of_open = λ A lt h. go A lt h (ℕ_discrete A g.start) }
-    where
-      long : length xs ≡ 128
-      long = ap length e ∙ length-replicate {A = ℕ} 128 65535
-
-      at_start : figure (set xs g.start 0) g.start ≡ 0
-      at_start = get_or-set_same xs g.start 0 no_figure (omega (arith, long))
-
-      go : (A : ℕ) → A < g.N → Has (set xs g.start 0) A → Dec (A ≡ g.start) →
-          OfOpen measure measure_cap g A (figure (set xs g.start 0) A)
-      go A lt h (yes q) = rw (q, at_start) (start_figure measure measure_cap g)
-      go A lt h (no d) =
-          let kept = get_or-set_other xs g.start A 0 no_figure d in
-          let none = ap (λ (l : List ℕ). figure l A) e ∙ get_or-replicate 128 A no_figure no_figure (omega arith) in
-          absurd (h (kept ∙ none))
-
   -- 5
   tree_below : {A x : ℕ} → LeastFigure g A x → x ≤ ceiling → Tree g A
   tree_below (of_tree least) l = least.tree
@@ -78,17 +58,17 @@ module _ (g : Grammar) where
   size_is (no_trees none) all = absurd (none (λ B m l. all B l))
 
   module _ (vs sizes : List ℕ) (found : FiguresOf g vs sizes) where
-    pub row_5_found : (a : ℕ) → FirstAbove vs g.N ceiling (At a) → Lowest (NoTree g) a
+    pub row_5_found : (a : ℕ) → FirstAbove vs g.N ceiling (Some a) → Lowest (NoTree g) a
     row_5_found a (found_at lt above before) =
         lowest_where
         (record { nonterminal = lt; none = no_tree_above (found.least a lt) above })
         (λ m l z. z.none (tree_below (found.least m (omega arith)) (before m l)))
 
     -- 5 is passed
-    trees_found : FirstAbove vs g.N ceiling Nothing → AllTrees g
+    trees_found : FirstAbove vs g.N ceiling None → AllTrees g
     trees_found (found_none all) A lt = tree_below (found.least A lt) (all A lt)
 
-    pub leasts-found : FirstAbove vs g.N ceiling Nothing → LeastsDone g vs
+    pub leasts-found : FirstAbove vs g.N ceiling None → LeastsDone g vs
     leasts-found search =
         let (x, leasts) = leasts_exist measure g (trees_found search) in
         record {
@@ -97,10 +77,10 @@ module _ (g : Grammar) where
           all = λ A lt. low search A lt;
         }
       where
-        low : FirstAbove vs g.N ceiling Nothing → (A : ℕ) → A < g.N → Has vs A
+        low : FirstAbove vs g.N ceiling None → (A : ℕ) → A < g.N → Has vs A
         low (found_none all) A lt e = omega (arith, all A lt)
 
-    pub sizes-found : FirstAbove vs g.N ceiling Nothing → SizesOf g vs sizes
+    pub sizes-found : FirstAbove vs g.N ceiling None → SizesOf g vs sizes
     sizes-found search k A w r = size_is (found.size k A w r) (trees_found search)
 
   module _ (vs : List ℕ) (done : LeastsDone g vs) where
@@ -119,7 +99,7 @@ module _ (g : Grammar) where
             (λ e. omega arith, q);
       }
 
-      pub row_6_found : ContextsRest g vs us → (a : ℕ) → FirstAbove us g.N ceiling (At a) → Lowest (Unreached g) a
+      pub row_6_found : ContextsRest g vs us → (a : ℕ) → FirstAbove us g.N ceiling (Some a) → Lowest (Unreached g) a
       row_6_found rest a (found_at lt above before) =
           let none : ¬ Has us a = λ h. let (t, e) = rest.sound.of_open a lt h in omega arith in
           lowest_where
@@ -127,7 +107,7 @@ module _ (g : Grammar) where
           (λ m l z. let b = before m l in
           z.never (open_reached (rest.sound.of_open m (omega arith) (λ e. omega arith)).0))
 
-      pub contexts_found : ContextsRest g vs us → FirstAbove us g.N ceiling Nothing → ContextsDone g vs us
+      pub contexts_found : ContextsRest g vs us → FirstAbove us g.N ceiling None → ContextsDone g vs us
       contexts_found rest (found_none all) = record { rest = rest; all = λ A lt e. omega (arith, all A lt) }
 
       module _ (placed : ContextsDone g vs us) where
@@ -152,7 +132,7 @@ module _ (g : Grammar) where
               let s = of-sizes k A w r in
               sym (figure_is totals k 0 (omega arith)) ∙ e ∙ ap (λ (x : ℕ). capped (figure us A + x)) s
 
-          pub row_7_found : (a : ℕ) → FirstAbove totals (R g) limit (At a) → Lowest (Oversize limit g) a
+          pub row_7_found : (a : ℕ) → FirstAbove totals (R g) limit (Some a) → Lowest (Oversize limit g) a
           row_7_found a (found_at lt above before) = lowest_where over_it below_it
             where
               over_it : Oversize limit g a
@@ -170,7 +150,7 @@ module _ (g : Grammar) where
                   omega arith
 
           -- 7 is passed
-          pub all_fit : FirstAbove totals (R g) limit Nothing → AllFit limit g
+          pub all_fit : FirstAbove totals (R g) limit None → AllFit limit g
           all_fit (found_none all) r l =
               let (A, w, rule) = rule_at ok r l in
               let e = total_is rule in

@@ -3,70 +3,103 @@
 -- after the other, up or down, and after a round that lowered nothing every rule is quiet. What is seen may change all the same,
 -- so what is known is of the two arrays, and the laws are not those of one. Assumes nothing.
 use mathlib.Core.Path.{◌≡◌, refl, ◌∙◌}
-use mathlib.Core.Bool.{Bool}
-use mathlib.Core.List.{List}
+use mathlib.Core.Bool.{Bool, true, false}
 use Prim.Native.Nat.{ℕ, ◌+◌, ◌≤◌, ◌<◌}
 use native.Mathlib.Omega.{arith}
 use borrow.Author.Count.{below_more}
-use native.Mathlib.Decide.{dec_lt}
-use lib.ListN.{length, replicate, get_or-replicate, length-replicate, get_or-eq_default}
-use Rattle.grammar.specs.Words.{Grammar}
-use Rattle.figures.specs.Figures.{no_figure, figure, turn}
+use native.Mathlib.Decide.{dec_lt, ℕ_discrete}
+use lib.ListN.{set, replicate, get_or-replicate, length-replicate, get_or-eq_default}
+use lib.Seq.{get_or-set_same, get_or-set_other}
+use Rattle.std.specs.Int.{from_bool}
+use Rattle.grammar.specs.Words.{Grammar, InBounds}
+use Rattle.grammar.specs.Terms.{measure}
+use Rattle.grammar.specs.Caps.{OfOpen, measure_cap}
+use Rattle.grammar.proofs.CappedContexts.{start_figure}
+use Rattle.grammar.proofs.LayoutExact.{in_bounds}
+use Rattle.figures.specs.Figures.{no_figure, figure, Has, turn}
 use Rattle.figures.specs.Weights.{Fallen}
-use Rattle.tables.specs.ContextFigures.{ContextsSound, ContextQuiet}
-use Rattle.tables.specs.ContextSteps.{LeastsKnown, Stands, SeenTurn, SeenRound}
 use Rattle.figures.proofs.EachTurn.{each_turn}
+use Rattle.leasts.specs.declared.FoundLeasts.{FoundLeasts}
+use Rattle.tables.specs.ContextFigures.{Grown, ContextsSound, ContextQuiet, ContextsRest}
+use Rattle.tables.specs.ContextSteps.{KnownOf, SeenTurn, SeenRound}
+use Rattle.tables.specs.declared.contexts.Contexts.{Contexts}
 
-module _ (g : Grammar) (vs : List ℕ) where
-  -- the first i turns of a round
-  pub record SeenTurns (up : Bool) (rules i : ℕ) (us seen us' seen' : List ℕ) (n : ℕ) : Type 0 where
-    pub keeps : Stands g vs us seen → Stands g vs us' seen'
-    pub still : n ≡ 0 → Stands g vs us seen → (us' ≡ us) × ((j : ℕ) → j < i → ContextQuiet g vs us (turn up rules j))
+-- where the start alone has a context, which is 0, the contexts are sound
+contexts_begin : (g : Grammar) → InBounds g → ContextsSound g (set (replicate 128 no_figure) g.start 0)
+contexts_begin g ok = record { start = at_start; of_open = λ A lt has. go A lt has (ℕ_discrete A g.start) }
+  where
+    at_start : figure (set (replicate 128 no_figure) g.start 0) g.start ≡ 0
+    at_start =
+        get_or-set_same (replicate 128 no_figure) g.start 0 no_figure
+        (omega (arith, ok.start_below, ok.nonterminals, length-replicate {A = ℕ} 128 no_figure))
 
-  turns_none : {up : Bool} {rules : ℕ} (us seen : List ℕ) → SeenTurns up rules 0 us seen us seen 0
-  turns_none us seen = record { keeps = λ s. s; still = λ e s. (refl, λ j h. absurd (omega arith)) }
+    go : (A : ℕ) → A < g.N → Has (set (replicate 128 no_figure) g.start 0) A → Dec (A ≡ g.start) →
+        OfOpen measure measure_cap g A (figure (set (replicate 128 no_figure) g.start 0) A)
+    go A lt has (yes e) = rw (e, at_start) (start_figure measure measure_cap g)
+    go A lt has (no d) =
+        let kept = get_or-set_other (replicate 128 no_figure) g.start A 0 no_figure d in
+        absurd (has (kept ∙ get_or-replicate 128 A no_figure no_figure (omega (arith, ok.nonterminals))))
 
-  turns_more : {up : Bool} {rules i m n : ℕ} {us us' us'' seen seen' seen'' : List ℕ} →
-      SeenTurns up rules i us seen us' seen' m → SeenTurn g vs (turn up rules i) us' seen' us'' seen'' n →
-      SeenTurns up rules (i + 1) us seen us'' seen'' (m + n)
-  turns_more {up} {rules} {i} {m} {n} {us} {us'} {us''} {seen} t u = record {
-    keeps = λ s. u.keeps (t.keeps s);
+-- a round after its first i turns; the number of figures that fell is small
+pub record SeenTurns (found : FoundLeasts) (up : Bool) (i : ℕ) (before after : Contexts) (n : ℕ) : Type 0 where
+  pub few : n ≤ i
+  pub fallen : Fallen before.figures after.figures n
+  pub keeps : (grown : Grown found) → KnownOf grown before → KnownOf grown after
+  pub still : (grown : Grown found) → n ≡ 0 → KnownOf grown before →
+      (after.figures ≡ before.figures) ×
+      ((j : ℕ) → j < i → ContextQuiet grown.grammar found.leasts before.figures (turn up found.reading.rules j))
+
+module _ {found : FoundLeasts} where
+  pub turns_none : {up : Bool} (contexts : Contexts) → SeenTurns found up 0 contexts contexts 0
+  turns_none contexts = record {
+    few = omega arith;
+    fallen = omega arith;
+    keeps = λ grown s. s;
+    still = λ grown e s. (refl, λ j h. absurd (omega arith));
+  }
+
+  pub turns_more : {up fell : Bool} {i m k : ℕ} {before now after : Contexts} → SeenTurns found up i before now m →
+      k ≡ turn up found.reading.rules i → SeenTurn found k now after fell →
+      SeenTurns found up (i + 1) before after (m + from_bool fell)
+  turns_more {up} {fell} {i} {m} {k} {before} {now} {after} so_far is last = record {
+    few = omega (arith, so_far.few, once fell);
+    fallen = omega (arith, so_far.fallen, last.fallen);
+    keeps = λ grown s. last.keeps grown (so_far.keeps grown s);
     still = still;
   }
     where
-      still : m + n ≡ 0 → Stands g vs us seen → (us'' ≡ us) × ((j : ℕ) → j < i + 1 → ContextQuiet g vs us (turn up rules j))
-      still e s =
-          let (q, quiet) = t.still (omega arith) s in
-          let (q', last) = u.still (omega arith) (t.keeps s) in
-          (q' ∙ q, below_more _ i quiet (rw q at last))
+      once : (b : Bool) → from_bool b ≤ 1
+      once false = omega arith
+      once true = omega arith
 
-  turns_all : {up : Bool} {rules n : ℕ} {us us' seen seen' : List ℕ} → SeenTurns up rules rules us seen us' seen' n →
-      SeenRound g vs rules us seen us' seen' n
-  turns_all {up} {rules} {us = us} t = record {
+      none : (b : Bool) → from_bool b ≡ 0 → b ≡ false
+      none false e = refl
+      none true e = absurd (omega arith)
+
+      still : (grown : Grown found) → m + from_bool fell ≡ 0 → KnownOf grown before →
+          (after.figures ≡ before.figures) ×
+          ((j : ℕ) → j < i + 1 → ContextQuiet grown.grammar found.leasts before.figures (turn up found.reading.rules j))
+      still grown e s =
+          let (same, quiet) = so_far.still grown (omega arith) s in
+          let (same', own) = last.still grown (none fell (omega arith)) (so_far.keeps grown s) in
+          (same' ∙ same, below_more _ i quiet (rw (same, is) at own))
+
+  pub turns_all : {up : Bool} {n : ℕ} {before after : Contexts} → SeenTurns found up found.reading.rules before after n →
+      SeenRound found before after n
+  turns_all {up} {before = before} t = record {
+    fallen = t.fallen;
     keeps = t.keeps;
-    still = λ e s. ((t.still e s).0, each_turn (ContextQuiet g vs us) up rules (t.still e s).1);
+    still = λ grown e s.
+        let (same, quiet) = t.still grown e s in
+        (same, each_turn (ContextQuiet grown.grammar found.leasts before.figures) up found.reading.rules quiet);
   }
 
-  -- rounds one after the other, of which the last lowered n figures
-  pub record SeenRounds (rules : ℕ) (us seen us' seen' : List ℕ) (n : ℕ) : Type 0 where
-    pub keeps : Stands g vs us seen → Stands g vs us' seen'
-    pub rests : n ≡ 0 → Stands g vs us seen → (k : ℕ) → k < rules → ContextQuiet g vs us' k
-
-  pub rounds_none : {rules : ℕ} (us seen : List ℕ) → SeenRounds rules us seen us seen 1
-  rounds_none us seen = record { keeps = λ s. s; rests = λ e. absurd (omega arith) }
-
-  pub rounds_more : {rules m n : ℕ} {us us' us'' seen seen' seen'' : List ℕ} → SeenRounds rules us seen us' seen' m →
-      SeenRound g vs rules us' seen' us'' seen'' n → SeenRounds rules us seen us'' seen'' n
-  rounds_more rounds last = record {
-    keeps = λ s. last.keeps (rounds.keeps s);
-    rests = λ e s k h. let (q, quiet) = last.still e (rounds.keeps s) in rw q (quiet k h);
-  }
-
-  -- at the outset no rule is seen
-  pub outset : {us seen : List ℕ} → ContextsSound g us → seen ≡ replicate 256 no_figure → Stands g vs us seen
-  outset {us} {seen} sound e = record {
-    sound = sound;
-    of_seen = λ k B w r has. absurd (has (rw e (none_at k (dec_lt k 256))));
+  -- at the outset the start alone has a context, which is 0, and no rule is seen
+  pub outset : (grown : Grown found) →
+      KnownOf grown (record { figures = set (replicate 128 no_figure) found.reading.start 0; seen = replicate 256 no_figure })
+  outset grown = record {
+    sound = rw grown.first (contexts_begin grown.grammar (in_bounds found.reading.words.now grown.view.is));
+    of_seen = λ k B w r has. absurd (has (none_at k (dec_lt k 256)));
   }
     where
       none_at : (k : ℕ) → Dec (k < 256) → figure (replicate 256 no_figure) k ≡ no_figure
@@ -74,42 +107,12 @@ module _ (g : Grammar) (vs : List ℕ) where
       none_at k (no h) =
           get_or-eq_default (replicate 256 no_figure) no_figure {n = k} (omega (arith, length-replicate {A = ℕ} 256 no_figure))
 
--- A round after its first i turns, as a loop over them needs it: the arrays kept their lengths, the count is small, so many
--- contexts fell, and for each grammar that is known the turns did what turns do.
-module _ (ws places : List ℕ) (n rules : ℕ) (sizes vs : List ℕ) where
-  pub record SeenSoFar (up : Bool) (i : ℕ) (us seen us' seen' : List ℕ) (f : ℕ) : Type 0 where
-    pub within : i ≤ rules
-    pub same_length : length us' ≡ length us
-    pub same_seen : length seen' ≡ length seen
-    pub few : f ≤ i
-    pub fallen : Fallen us us' f
-    pub turns : (g : Grammar) → LeastsKnown ws places n rules sizes vs g → SeenTurns g vs up rules i us seen us' seen' f
-
-  pub none_seen : {up : Bool} (us seen : List ℕ) → SeenSoFar up 0 us seen us seen 0
-  none_seen us seen = record {
-    within = omega arith;
-    same_length = refl;
-    same_seen = refl;
-    few = omega arith;
-    fallen = omega arith;
-    turns = λ g known. turns_none g vs us seen;
-  }
-
-  -- the turn of rule k
-  pub one_more_seen : {up : Bool} {i m f k : ℕ} {us us' us'' seen seen' seen'' : List ℕ} → i < rules →
-      SeenSoFar up i us seen us' seen' m → k ≡ turn up rules i → length us'' ≡ length us' → length seen'' ≡ length seen' →
-      f ≤ 1 → Fallen us' us'' f →
-      ((g : Grammar) → LeastsKnown ws places n rules sizes vs g → SeenTurn g vs k us' seen' us'' seen'' f) →
-      SeenSoFar up (i + 1) us seen us'' seen'' (m + f)
-  one_more_seen h so_far in-turn same same' once fallen last = record {
-    within = omega arith;
-    same_length = same ∙ so_far.same_length;
-    same_seen = same' ∙ so_far.same_seen;
-    few = omega (arith, so_far.few);
-    fallen = omega (arith, so_far.fallen);
-    turns = λ g known. turns_more g vs (so_far.turns g known) (rw in-turn at (last g known));
-  }
-
-  pub all_seen : {up : Bool} {i f : ℕ} {us us' seen seen' : List ℕ} → SeenSoFar up i us seen us' seen' f → i ≡ rules →
-      (g : Grammar) → LeastsKnown ws places n rules sizes vs g → SeenRound g vs rules us seen us' seen' f
-  all_seen so_far end g known = turns_all g vs (rw end at (so_far.turns g known))
+  -- after a round that lowered none the contexts are at rest
+  pub at_rest : (grown : Grown found) {before after : Contexts} → KnownOf grown before → SeenRound found before after 0 →
+      ContextsRest grown.grammar found.leasts after.figures
+  at_rest grown stands round =
+      let (same, quiet) = round.still grown refl stands in
+      record {
+        sound = (round.keeps grown stands).sound;
+        quiet = λ k h. rw same (quiet k (omega (arith, grown.view.all_rules)));
+      }

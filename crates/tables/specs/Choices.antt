@@ -1,23 +1,22 @@
--- For the private functions of choices: a choice for each nonterminal, a word of an array: its chosen rule, or its context rule and
--- place as one number, 32 times the rule and the place. And what noting one does. Nobody has to believe this file; the promises do
--- not cite it. Assumes nothing.
-use Rattle.std.specs.Prelude.{ℕ, ◌+◌, ◌*◌, ◌≤◌, ◌<◌, ◌≡◌, List, length, get_or, set, replicate}
-use Rattle.grammar.specs.Words.{Grammar, RuleAt, InBounds}
+-- For the private functions of choices: a choice for each nonterminal, where it has one: its chosen rule, or its lead, the context rule
+-- and the place there. And what noting one does. Nobody has to believe this file; the promises do not cite it. Assumes nothing.
+use Rattle.std.specs.Prelude.{ℕ, ◌+◌, ◌*◌, ◌≤◌, ◌<◌, ◌≡◌, List, Option, Some, None, length, get_or, set}
+use Rattle.grammar.specs.Words.{Grammar, RuleAt}
 use Rattle.grammar.specs.Certificates.{Holds}
-use Rattle.entries.specs.Table.{no_choice}
+use Rattle.layout.specs.Read.{ReadsAs}
 use Rattle.figures.specs.Figures.{figure}
+use Rattle.leasts.specs.declared.FoundLeasts.{FoundLeasts}
+use Rattle.tables.specs.declared.choices.Lead.{Lead}
+use Rattle.tables.specs.declared.contexts.GrammarFigures.{GrammarFigures}
 
-abbrev pub choice : List ℕ → ℕ → ℕ
-choice xs A = get_or xs A no_choice
+-- the choice of a nonterminal, where there is one
+abbrev pub choice : {C : Type 0} → List (Option C) → ℕ → Option C
+choice xs A = get_or xs A None
 
--- at the outset no nonterminal has one, and the array has room for every nonterminal
-abbrev pub NoChoices : List ℕ → Type 0
-NoChoices xs = xs ≡ replicate 128 no_choice
-
--- The first number below n with a property, or `no_choice` where none has it.
-pub data FirstBelow (P : ℕ → Type 0) (n : ℕ) : ℕ → Type 0 where
-  none_has : ((k : ℕ) → k < n → ¬ P k) → FirstBelow P n no_choice
-  first : {k : ℕ} → k < n → P k → ((j : ℕ) → j < k → ¬ P j) → FirstBelow P n k
+-- Of the choices with a property and a rank below n the one of the lowest rank, or none where there is no such choice.
+pub data FirstBelow {C : Type 0} (rank : C → ℕ) (P : C → Type 0) (n : ℕ) : Option C → Type 0 where
+  none_has : ((y : C) → rank y < n → ¬ P y) → FirstBelow rank P n None
+  first : {x : C} → rank x < n → P x → ((y : C) → rank y < rank x → ¬ P y) → FirstBelow rank P n (Some x)
 
 -- rule k is one of A, and its size is A's least
 pub record RuleFits (g : Grammar) (vs sizes : List ℕ) (A k : ℕ) : Type 0 where
@@ -25,37 +24,44 @@ pub record RuleFits (g : Grammar) (vs sizes : List ℕ) (A k : ℕ) : Type 0 whe
   pub rule : RuleAt g k A w
   pub same : figure vs A ≡ get_or sizes k 0
 
-abbrev pub ChosenOf : Grammar → List ℕ → List ℕ → List ℕ → ℕ → Type 0
-ChosenOf g vs sizes chosen n = (A : ℕ) → A < g.N → FirstBelow (RuleFits g vs sizes A) n (choice chosen A)
+abbrev pub rule_rank : ℕ → ℕ
+rule_rank k = k
 
--- rule k has A at place i, the two as one number 32 k + i, and the rule's total is the least of A and the context of A
-pub record PlaceFits (g : Grammar) (vs us totals : List ℕ) (A q : ℕ) : Type 0 where
-  pub k : ℕ
-  pub i : ℕ
-  pub is : q ≡ 32 * k + i
+abbrev pub ChosenOf : Grammar → List ℕ → List ℕ → List (Option ℕ) → ℕ → Type 0
+ChosenOf g vs sizes chosen n = (A : ℕ) → A < g.N → FirstBelow rule_rank (RuleFits g vs sizes A) n (choice chosen A)
+
+-- the lead's rule has A at the lead's place, and the rule's total is the least of A and the context of A
+pub record LeadFits (g : Grammar) (vs us totals : List ℕ) (A : ℕ) (lead : Lead) : Type 0 where
   pub B : ℕ
   pub w : List ℕ
-  pub rule : RuleAt g k B w
-  pub holds : Holds w i A
-  pub same : figure vs A + figure us A ≡ get_or totals k 0
+  pub rule : RuleAt g lead.rule B w
+  pub holds : Holds w lead.place A
+  pub same : figure vs A + figure us A ≡ get_or totals lead.rule 0
 
-abbrev pub LeadsOf : Grammar → List ℕ → List ℕ → List ℕ → List ℕ → ℕ → Type 0
-LeadsOf g vs us totals leads n = (A : ℕ) → A < g.N → FirstBelow (PlaceFits g vs us totals A) n (choice leads A)
+-- the lowest rule comes first, and then the leftmost place: no rule has more than 32
+abbrev pub lead_rank : Lead → ℕ
+lead_rank lead = 32 * lead.rule + lead.place
 
--- a number noted where there is none yet, and left where there is one, or no place for it
-pub data Noted (before : List ℕ) (a number : ℕ) : List ℕ → Type 0 where
-  noted : a < length before → choice before a ≡ no_choice → Noted before a number (set before a number)
-  kept : (a < length before → ¬ (choice before a ≡ no_choice)) → Noted before a number before
+abbrev pub LeadsOf : Grammar → List ℕ → List ℕ → List ℕ → List (Option Lead) → ℕ → Type 0
+LeadsOf g vs us totals leads n = (A : ℕ) → A < g.N → FirstBelow lead_rank (LeadFits g vs us totals A) n (choice leads A)
 
--- a number noted so where something holds, and nothing done where it does not
-pub data NotedWhere (P : Type 0) (before : List ℕ) (a number : ℕ) : List ℕ → Type 0 where
-  does : {after : List ℕ} → P → Noted before a number after → NotedWhere P before a number after
-  does_not : ¬ P → NotedWhere P before a number before
+-- what is chosen in the end: among the rules that were read, and among their places
+abbrev pub RulesChosen : FoundLeasts → List (Option ℕ) → Type 0
+RulesChosen found chosen =
+    (g : Grammar) → ReadsAs found.reading g → ChosenOf g found.leasts found.sizes chosen found.reading.rules
 
--- The places of rule r, whose symbols are w, noted: the choices among the places of the rules before it become those among its
--- places too, whatever the grammar.
-abbrev pub LeadsNoted : List ℕ → ℕ → ℕ → ℕ → List ℕ → List ℕ → List ℕ → List ℕ → Type 0
-LeadsNoted w n r total vs us before after =
-    (g : Grammar) (B : ℕ) (totals : List ℕ) → InBounds g → n ≡ g.N → RuleAt g r B w → total ≡ get_or totals r 0 →
-    128 ≤ length before →
-    LeadsOf g vs us totals before (32 * r) → LeadsOf g vs us totals after (32 * (r + 1))
+abbrev pub LeadsBelow : GrammarFigures → Grammar → List (Option Lead) → ℕ → Type 0
+LeadsBelow f g leads r = LeadsOf g f.leasts.now f.contexts.now f.totals.now leads (32 * r)
+
+abbrev pub LeadsChosen : GrammarFigures → List (Option Lead) → Type 0
+LeadsChosen f leads = (g : Grammar) → ReadsAs f.reading.now g → LeadsBelow f g leads f.reading.now.rules
+
+-- the places of rule r noted: the choices among the places of the rules before it become those among its places too
+abbrev pub LeadsNoted : GrammarFigures → ℕ → List (Option Lead) → List (Option Lead) → Type 0
+LeadsNoted f r before after =
+    (g : Grammar) → ReadsAs f.reading.now g → 128 ≤ length before → LeadsBelow f g before r → LeadsBelow f g after (r + 1)
+
+-- a choice noted where there is none yet, and left where there is one, or no place for it
+pub data Noted {C : Type 0} (before : List (Option C)) (a : ℕ) (x : C) : List (Option C) → Type 0 where
+  noted : a < length before → choice before a ≡ None → Noted before a x (set before a (Some x))
+  kept : (a < length before → ¬ (choice before a ≡ None)) → Noted before a x before

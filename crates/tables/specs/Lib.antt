@@ -9,4 +9,3 @@ pub mod ContextFigures
 pub mod ContextSteps
 pub mod Choices
 pub mod Filling
-pub mod Rows

@@ -1,137 +1,85 @@
 // The choices, where no figure is cut: the chosen rule of each nonterminal, and its context rule and place.
-ghost use Rattle.std.specs.Prelude.{◌≡◌, ℕ, ◌+◌, ◌*◌, ◌≤◌, ◌<◌, length};
-ghost use Rattle.grammar.specs.Words.{Grammar};
-ghost use Rattle.figures.specs.Figures.{figure};
-ghost use Rattle.tables.specs.Choices.{NoChoices, ChosenOf, LeadsOf};
-ghost use Rattle.layout.specs.View.{View};
-ghost use Rattle.tables.specs.Choices.{Noted, NotedWhere, LeadsNoted};
+ghost use Rattle.std.specs.Prelude.{◌<◌};
+ghost use Rattle.tables.specs.Choices.{RulesChosen, LeadsChosen, LeadsNoted, Noted};
 
-use cells::wide;
-use entries::NO_CHOICE;
+use crate::contexts::{GrammarFigures, rule_size};
 use figures::figure_at;
-use layout::rules;
-use layout::words::word;
+use leasts::FoundLeasts;
 
-// Notes a number at a nonterminal that has none yet.
-fn note(numbers: &mut [u16], a: usize, number: u16)
-    ensures { Noted numbers.old a number numbers.new }
-{
-    if a < numbers.len() {
-        if numbers[a] == NO_CHOICE {
-            numbers[a] = number;
-        }
-    }
+// The context rule of a nonterminal, and its place there.
+#[derive(Clone, Copy)]
+pub struct Lead {
+    pub rule: u16,
+    pub place: u16,
 }
 
-// Notes rule r, which has this left side and size, as the chosen one where the size is the least.
-fn choose_rule(left: usize, size: u32, r: u16, leasts: &[u16], chosen: &mut [u16])
-    ensures { NotedWhere (figure leasts.now left ≡ size) chosen.old left r chosen.new }
+// For each nonterminal its chosen rule, and its lead, where it has one.
+#[derive(Drop)]
+pub struct Choices {
+    pub chosen: [Option<u16>; 128],
+    pub leads: [Option<Lead>; 128],
+}
+
+// Notes a choice for a nonterminal that has none yet.
+#[tactic(auto, using(crate::specs::Choices::noted, crate::specs::Choices::kept))]
+fn note<T: Copy>(choices: &mut [Option<T>], a: usize, choice: T)
+    ensures { Noted choices.old a choice choices.new }
 {
-    if figure_at(leasts, left) == size as usize {
-        note(chosen, left, r);
+    if let Some(None) = choices.get(a) {
+        choices[a] = Some(choice);
     }
 }
 
 // The first rule of each nonterminal whose size is its least.
-pub fn choose_rules(
-    words: &[u16],
-    places: &[u16],
-    rules: usize,
-    leasts: &[u16],
-    sizes: &[u32; 256],
-    chosen: &mut [u16],
-)
-    requires { rules ≤ 256 }
-    ensures { (g : Grammar) (n : ℕ) → View words.now places.now n rules g →
-        NoChoices chosen.old →
-        ChosenOf g leasts.now sizes.now chosen.new rules }
+pub fn choose_rules(found: &FoundLeasts<'_>) -> [Option<u16>; 128]
+    ensures { RulesChosen found.now result }
 {
-    let mut r = 0;
-    while r < rules {
-        let at = rules::index(places, r);
-        choose_rule(word(words, at), sizes[r], r as u16, leasts, chosen);
-        r += 1;
-    }
-}
-
-// Notes a place, where symbol s stands in a rule of this total, as that of its context: where s is a nonterminal and the total is
-// its least and its context.
-fn choose_lead(
-    s: usize,
-    n: usize,
-    place: u16,
-    total: u16,
-    leasts: &[u16],
-    contexts: &[u16],
-    leads: &mut [u16],
-)
-    ensures { NotedWhere ((s < n) × (figure leasts.now s + figure contexts.now s ≡ total))
-        leads.old s place leads.new }
-{
-    if s < n {
-        if figure_at(leasts, s) + figure_at(contexts, s) == wide(total) {
-            note(leads, s, place);
+    let mut chosen = [None; 128];
+    for r in 0..found.reading.rules {
+        let left = usize::from(found.reading.left(r));
+        if figure_at(&found.leasts, left) == rule_size(found, r) {
+            note(&mut chosen, left, r);
         }
     }
+    chosen
 }
 
-// The same at each symbol of rule r; a place's number is 32 r and the place.
-fn choose_leads_of(
-    symbols: &[u16],
-    n: usize,
-    r: usize,
-    total: u16,
-    leasts: &[u16],
-    contexts: &[u16],
-    leads: &mut [u16],
-)
-    requires { (length symbols.now ≤ 32) × (r < 256) }
-    ensures { LeadsNoted symbols.now n r total
-        leasts.now contexts.now leads.old leads.new }
+// The first rule and place of each nonterminal that give its context.
+pub fn choose_leads(figures: GrammarFigures<'_>) -> [Option<Lead>; 128]
+    ensures { LeadsChosen figures.entry result }
 {
-    let mut i = 0;
-    while i < symbols.len() {
-        choose_lead(
-            symbols[i] as usize,
-            n,
-            (32 * r + i) as u16,
-            total,
-            leasts,
-            contexts,
-            leads,
-        );
-        i += 1;
+    let mut leads = [None; 128];
+    for r in 0..figures.reading.rules {
+        choose_leads_of(figures, r, &mut leads);
     }
+    leads
 }
 
-// The first rule and place of each nonterminal that give its context, as one number.
-pub fn choose_leads(
-    words: &[u16],
-    places: &[u16],
-    n: usize,
-    rules: usize,
-    leasts: &[u16],
-    contexts: &[u16],
-    totals: &[u16; 256],
-    leads: &mut [u16],
-)
-    requires rules_bound { rules ≤ 256 }
-    requires view { (g : Grammar) × View words.now places.now n rules g }
-    ensures { (g : Grammar) → View words.now places.now n rules g →
-        NoChoices leads.old →
-        LeadsOf g leasts.now contexts.now totals.now leads.new (32 * rules) }
+// The same among the places of rule r: a nonterminal there whose least and context are the rule's total.
+fn choose_leads_of(figures: GrammarFigures<'_>, r: u16, leads: &mut [Option<Lead>])
+    requires { r < figures.reading.now.rules }
+    ensures { LeadsNoted figures.entry r leads.old leads.new }
 {
-    let mut r = 0;
-    while r < rules {
-        choose_leads_of(
-            rules::right(words, rules::index(places, r)),
-            n,
-            r,
-            totals[r],
-            leasts,
-            contexts,
-            leads,
-        );
-        r += 1;
+    let GrammarFigures {
+        reading,
+        leasts,
+        contexts,
+        totals,
+    } = figures;
+    let total = usize::from(totals[usize::from(r)]);
+    for (place, &s) in reading.right(r).iter().enumerate() {
+        if s < reading.nonterminals {
+            let a = usize::from(s);
+            if figure_at(leasts, a) + figure_at(contexts, a) == total {
+                note(
+                    leads,
+                    a,
+                    Lead {
+                        rule: r,
+                        place: place as u16,
+                    },
+                );
+            }
+        }
     }
 }

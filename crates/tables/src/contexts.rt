@@ -1,214 +1,163 @@
 // The contexts, by rounds over all rules until nothing falls; and the totals by them. A rule that was tried lowers nothing more
 // until the context of its left side falls: that context is kept for each rule, and while it stands the rule is passed over.
-ghost use Rattle.std.specs.Prelude.{◌≡◌, ℕ, ◌≤◌, ◌<◌, length};
+ghost use Rattle.std.specs.Prelude.{◌≡◌, ◌≤◌, ◌<◌, length, get_or};
 ghost use Rattle.grammar.specs.Words.{Grammar};
-ghost use Rattle.figures.specs.Weights.{Fallen};
-ghost use Rattle.tables.specs.ContextFigures.{SizesOf, LeastsDone};
-ghost use Rattle.layout.specs.View.{View};
-ghost use Rattle.tables.specs.ContextFigures.{ContextsSound, ContextsRest, TotalsOf};
-ghost use Rattle.tables.specs.ContextSteps.{PlaceStep, PlacesStep, ContextStep, SeenTurn, SeenRound, LeastsKnown};
+ghost use Rattle.layout.specs.Read.{ReadsAs};
+ghost use Rattle.tables.specs.ContextFigures.{Grown, ContextsRest, TotalsOf};
+ghost use Rattle.tables.specs.ContextSteps.{PlaceStep, PlacesStep, RuleStep, KnownOf, SeenTurn, SeenRound};
 
-use crate::chains::{link, note_rules};
-use entries::NO_CHOICE;
+use crate::chains::Chains;
 use figures::{NO_FIGURE, cap, figure_at, in_turn, lower};
-use layout::rules;
-use layout::words::word;
+use layout::reading::Reading;
+use leasts::FoundLeasts;
 
-// How many nonterminals and rules a grammar has.
+// The figures of a grammar: its leasts, its contexts, and its totals.
+// An array each, here and in Choices: the law table_found (docs/THEOREMS.md) takes lists, and each is whole before the next.
 #[derive(Clone, Copy)]
-pub struct Counts {
-    pub n: usize,
-    pub rules: usize,
+pub struct GrammarFigures<'a> {
+    pub reading: &'a Reading<'a>,
+    pub leasts: &'a [u16; 128],
+    pub contexts: &'a [u16; 128],
+    pub totals: &'a [u16; 256],
 }
 
-// A rule's size, to add to: a cast in a function of its own asks its callers for no proof.
-fn widened(size: u32) -> usize
-    ensures { (result ≡ size) × (result < 4294967296) }
+// The contexts found so far; and what is seen of each rule: the context that its left side had when it was last tried, and NO_FIGURE
+// where it never was.
+// NO_FIGURE, and no Option: `Stands` of specs/ContextSteps compares the two, and the edit reached_by_naming holds it.
+#[derive(Drop)]
+pub struct Contexts {
+    pub figures: [u16; 128],
+    pub seen: [u16; 256],
+}
+
+// The size of rule r, to add to. There is no From<u32> for usize.
+// r < rules is asked of each caller: a Rule as leasts has it can't be public in layout, as no public function of a library may ask.
+pub fn rule_size(found: &FoundLeasts<'_>, r: u16) -> usize
+    requires { r < found.now.reading.rules }
+    ensures { (result ≡ get_or found.now.sizes r 0) × (result < 4294967296) }
 {
-    size as usize
+    found.sizes[usize::from(r)] as usize
 }
 
 // Lowers the context of the symbol s of a rule, where whole is the rule's size and the context of its left side: the symbol's own
 // least is taken off again. How many figures fell.
-fn lower_context(s: usize, n: usize, whole: usize, leasts: &[u16], contexts: &mut [u16]) -> usize
-    ensures { PlaceStep n whole leasts.now s contexts.old contexts.new result }
+#[tactic(auto, using(crate::specs::ContextSteps::skipped, crate::specs::ContextSteps::tried))]
+fn lower_context(found: &FoundLeasts<'_>, s: u16, whole: usize, contexts: &mut [u16]) -> usize
+    ensures { PlaceStep found.now.reading.nonterminals whole found.now.leasts s contexts.old contexts.new result }
 {
-    if n <= s {
+    if found.reading.nonterminals <= s {
         return 0;
     }
-    let least = figure_at(leasts, s);
+    let a = usize::from(s);
+    let least = figure_at(&found.leasts, a);
     if whole < least {
         return 0;
     }
     let to = cap(whole - least);
-    lower(contexts, s, to)
+    lower(contexts, a, to)
 }
 
 // The same for each symbol of a rule.
 fn lower_contexts(
+    found: &FoundLeasts<'_>,
     symbols: &[u16],
-    n: usize,
     whole: usize,
-    leasts: &[u16],
     contexts: &mut [u16],
 ) -> usize
     requires { length symbols.now ≤ 65535 }
-    ensures { PlacesStep n whole leasts.now symbols.now contexts.old
-        contexts.new result }
+    ensures { PlacesStep found.now.reading.nonterminals whole found.now.leasts symbols.now contexts.old contexts.new result }
 {
     let mut fell = 0;
-    let mut i = 0;
-    while i < symbols.len() {
-        fell += lower_context(symbols[i] as usize, n, whole, leasts, contexts);
-        i += 1;
+    for &s in symbols {
+        fell += lower_context(found, s, whole, contexts);
     }
     fell
 }
 
-// The same for rule r, where it was not tried yet with the context that its left side has.
-fn context_of_rule(
-    left: usize,
-    symbols: &[u16],
-    n: usize,
-    size: u32,
-    r: usize,
-    seen: &mut [u16],
-    leasts: &[u16],
-    contexts: &mut [u16],
-) -> usize
-    requires { (length symbols.now ≤ 65535) × ((left < length contexts.old) × (r < length seen.old)) }
-    ensures { ContextStep n size leasts.now r left symbols.now contexts.old
-        seen.old contexts.new seen.new result }
-{
-    let context = contexts[left];
-    if context == seen[r] {
-        return 0;
-    }
-    seen[r] = context;
-    lower_contexts(
-        symbols,
-        n,
-        (context as usize) + widened(size),
-        leasts,
-        contexts,
-    )
-}
-
-// The turn of a rule: where a context falls, the rule noted for the last of its symbols is tried next, and so on. 1 where one fell
-// by the first, else 0.
-fn context_turn(
-    words: &[u16],
-    places: &[u16],
-    counts: Counts,
-    sizes: &[u32; 256],
-    owned: &[u16],
-    seen: &mut [u16],
-    first: usize,
-    leasts: &[u16],
-    contexts: &mut [u16],
-) -> usize
-    requires rules_bound { (counts.rules ≤ 256) × ((first < counts.rules) × ((256 ≤ length seen.old) × (128 ≤ length contexts.old))) }
-    requires leasts_known { (g : Grammar) × LeastsKnown words.now places.now counts.n counts.rules sizes.now leasts.now g }
-    ensures upper_bound { (result ≤ 1) × Fallen contexts.old contexts.new result }
-    ensures seen_turn { (g : Grammar) →
-        LeastsKnown words.now places.now counts.n counts.rules sizes.now leasts.now g →
-        SeenTurn g leasts.now first contexts.old seen.old
-        contexts.new seen.new result }
-{
-    let mut fell = 0;
-    let mut r = first;
-    while r < counts.rules {
-        let at = rules::index(places, r);
-        let symbols = rules::right(words, at);
-        let left = word(words, at);
-        if context_of_rule(left, symbols, counts.n, sizes[r], r, seen, leasts, contexts) == 0 {
-            return fell;
+impl Contexts {
+    // At the outset the start alone has a context, and no rule was tried.
+    fn begin(found: &FoundLeasts<'_>) -> Contexts
+        ensures { (grown : Grown found.now) → KnownOf grown result }
+    {
+        let mut figures = [NO_FIGURE; 128];
+        figures[usize::from(found.reading.start)] = 0;
+        Contexts {
+            figures,
+            seen: [NO_FIGURE; 256],
         }
-        fell = 1;
-        r = figure_at(owned, link(symbols, counts.n));
     }
-    fell
+
+    // Rule r, where it was not tried yet with the context that its left side has. How many figures fell.
+    fn try_rule(&mut self, found: &FoundLeasts<'_>, r: u16) -> usize
+        requires { r < found.now.reading.rules }
+        ensures { RuleStep found.now r self.old self.new result }
+    {
+        let left = usize::from(found.reading.left(r));
+        let k = usize::from(r);
+        let context = self.figures[left];
+        if context == self.seen[k] {
+            return 0;
+        }
+        self.seen[k] = context;
+        let whole = usize::from(context) + rule_size(found, r);
+        lower_contexts(found, found.reading.right(r), whole, &mut self.figures)
+    }
+
+    // The turn of a rule: where a context falls, the rule noted for the last of its symbols is tried next, and so on. Whether one fell
+    // by the first.
+    fn turn(&mut self, chains: &Chains<'_>, first: u16) -> bool
+        requires { first < chains.now.found.now.reading.rules }
+        ensures { SeenTurn chains.now.found.now first self.old self.new result }
+    {
+        let mut fell = false;
+        let mut next = Some(first);
+        while let Some(r) = next {
+            if self.try_rule(chains.found, r) == 0 {
+                return fell;
+            }
+            fell = true;
+            next = chains.next(r);
+        }
+        fell
+    }
+
+    // A round over all rules, from the first to the last or back; how many figures fell.
+    fn round(&mut self, chains: &Chains<'_>, up: bool) -> usize
+        ensures { SeenRound chains.now.found.now self.old self.new result }
+    {
+        let rules = chains.found.reading.rules;
+        let mut fell = 0;
+        for i in 0..rules {
+            let r = in_turn(usize::from(i), usize::from(rules), up);
+            if self.turn(chains, r as u16) {
+                fell += 1;
+            }
+        }
+        fell
+    }
 }
 
-// A round over all rules, from the first to the last or back; how many figures fell.
-fn context_round(
-    words: &[u16],
-    places: &[u16],
-    counts: Counts,
-    sizes: &[u32; 256],
-    owned: &[u16],
-    seen: &mut [u16],
-    up: bool,
-    leasts: &[u16],
-    contexts: &mut [u16],
-) -> usize
-    requires rules_bound { (counts.rules ≤ 256) × ((256 ≤ length seen.old) × (128 ≤ length contexts.old)) }
-    requires leasts_known { (g : Grammar) × LeastsKnown words.now places.now counts.n counts.rules sizes.now leasts.now g }
-    ensures fallen { Fallen contexts.old contexts.new result }
-    ensures seen_round { (g : Grammar) →
-        LeastsKnown words.now places.now counts.n counts.rules sizes.now leasts.now g →
-        SeenRound g leasts.now counts.rules contexts.old seen.old
-        contexts.new seen.new result }
+// The contexts, by rounds up and down in turn until one changes nothing.
+pub fn contexts_of(found: &FoundLeasts<'_>) -> [u16; 128]
+    ensures { (grown : Grown found.now) → ContextsRest grown.grammar found.now.leasts result }
 {
-    let mut fell = 0;
-    let mut i = 0;
-    while i < counts.rules {
-        let r = in_turn(i, counts.rules, up);
-        fell += context_turn(
-            words, places, counts, sizes, owned, seen, r, leasts, contexts,
-        );
-        i += 1;
-    }
-    fell
-}
-
-// Rounds up and down in turn until one changes nothing.
-pub fn context_rounds(
-    words: &[u16],
-    places: &[u16],
-    n: usize,
-    rules: usize,
-    sizes: &[u32; 256],
-    leasts: &[u16],
-    contexts: &mut [u16],
-)
-    requires rules_bound { (rules ≤ 256) × (128 ≤ length contexts.old) }
-    requires leasts_known { (g : Grammar) × LeastsKnown words.now places.now n rules sizes.now leasts.now g }
-    ensures { (g : Grammar) → View words.now places.now n rules g →
-        LeastsDone g leasts.now → SizesOf g leasts.now sizes.now →
-        ContextsSound g contexts.old → ContextsRest g leasts.now contexts.new }
-{
-    let mut owned = [NO_CHOICE; 128];
-    note_rules(words, places, rules, &mut owned);
-    let mut seen = [NO_FIGURE; 256];
-    let counts = Counts { n, rules };
-    let mut fell = 1;
+    let chains = Chains::of(found);
+    let mut contexts = Contexts::begin(found);
     let mut up = true;
-    while 0 < fell {
-        fell = context_round(
-            words, places, counts, sizes, &owned, &mut seen, up, leasts, contexts,
-        );
+    while 0 < contexts.round(&chains, up) {
         up = !up;
     }
+    contexts.figures
 }
 
 // The total of each rule, cut at 4,097.
-pub fn rule_totals(
-    words: &[u16],
-    places: &[u16],
-    rules: usize,
-    sizes: &[u32; 256],
-    contexts: &[u16],
-    totals: &mut [u16],
-)
-    requires { (rules ≤ 256) × (256 ≤ length totals.old) }
-    ensures { (g : Grammar) (n : ℕ) → View words.now places.now n rules g →
-        TotalsOf g contexts.now sizes.now totals.new }
+pub fn rule_totals(found: &FoundLeasts<'_>, contexts: &[u16; 128]) -> [u16; 256]
+    ensures { (g : Grammar) → ReadsAs found.now.reading g → TotalsOf g contexts.now found.now.sizes result }
 {
-    let mut r = 0;
-    while r < rules {
-        let left = word(words, rules::index(places, r));
-        totals[r] = cap(figure_at(contexts, left) + widened(sizes[r]));
-        r += 1;
+    let mut totals = [0; 256];
+    for r in 0..found.reading.rules {
+        let context = figure_at(contexts, usize::from(found.reading.left(r)));
+        totals[usize::from(r)] = cap(context + rule_size(found, r));
     }
+    totals
 }

@@ -1,106 +1,70 @@
 // The table, filled from the arrays that its figures and choices are worked out in.
-ghost use Rattle.std.specs.Prelude.{◌≡◌, List, [], ℕ, ◌+◌, ◌≤◌, ◌<◌, length};
-ghost use Rattle.answers.specs.Buffers.{over};
-ghost use Rattle.entries.specs.Table.{length_for};
-ghost use Rattle.entries.specs.Writing.{entries_of, table_of, entered_to, totalled_to};
-ghost use Rattle.tables.specs.Filling.{context_rule, context_place, found_in, Reach};
+ghost use Rattle.std.specs.Prelude.{◌≡◌, List, [], ℕ, ◌<◌};
+ghost use Rattle.entries.specs.Writing.{entries_of};
+ghost use Rattle.tables.specs.Filling.{found_in, HasRoom, EnteredTo, TotalledTo, Filled};
+ghost use Rattle.tables.specs.declared.choices.Choices.{Choices};
 
-use cells::narrow;
+use crate::choices::{Choices, Lead};
+use crate::contexts::GrammarFigures;
 use entries::{Entries, NO_CHOICE};
 
-// The rule of a rule and a place that are one number; NO_CHOICE where there is none.
-fn context_rule(number: u16) -> u16
-    ensures { result ≡ context_rule number }
+// Stands in the table for the lead of the start, which has none.
+const NO_LEAD: Lead = Lead {
+    rule: NO_CHOICE,
+    place: NO_CHOICE,
+};
+
+// The entries of the nonterminals, then the totals of the rules, into the front of table.
+pub fn fill(figures: GrammarFigures<'_>, choices: &Choices, table: &mut [u16])
+    requires { HasRoom figures table.old }
+    ensures { Filled figures.entry choices.now table.old table.new }
 {
-    if number == NO_CHOICE {
-        NO_CHOICE
-    } else {
-        number / 32
-    }
+    fill_entries(figures, choices, table);
+    fill_totals(figures, table);
 }
 
-// The place of the two.
-fn context_place(number: u16) -> u16
-    ensures { result ≡ context_place number }
+// The entries of each nonterminal.
+fn fill_entries(figures: GrammarFigures<'_>, choices: &Choices, table: &mut [u16])
+    requires { HasRoom figures table.old }
+    ensures { EnteredTo figures.entry choices.now figures.entry.reading.now.nonterminals table.old table.new }
 {
-    if number == NO_CHOICE {
-        NO_CHOICE
-    } else {
-        number % 32
+    for a in 0..figures.reading.nonterminals {
+        entries::write(
+            table,
+            a,
+            entries_of(figures.leasts, figures.contexts, choices, a),
+        );
     }
 }
 
 // The entries of nonterminal a.
-fn entries_of(a: usize, leasts: &[u16], chosen: &[u16], contexts: &[u16], leads: &[u16]) -> Entries
-    requires { Reach (a + 1) leasts.now chosen.now contexts.now leads.now }
-    ensures { result ≡ entries_of (found_in leasts.now chosen.now contexts.now
-        leads.now []) a }
+fn entries_of(leasts: &[u16; 128], contexts: &[u16; 128], choices: &Choices, a: u16) -> Entries
+    requires { a < 128 }
+    ensures { result ≡ entries_of (found_in leasts.now choices.now.chosen contexts.now choices.now.leads []) a }
 {
-    let lead = leads[a];
+    let a = usize::from(a);
+    let lead = choices.leads[a].unwrap_or(NO_LEAD);
     Entries {
         least: leasts[a],
-        chosen: chosen[a],
+        chosen: choices.chosen[a].unwrap_or(NO_CHOICE),
         context: contexts[a],
-        rule: context_rule(lead),
-        place: context_place(lead),
+        rule: lead.rule,
+        place: lead.place,
     }
 }
 
-// The entries of each of the n nonterminals.
-fn fill_entries(
-    n: usize,
-    leasts: &[u16],
-    chosen: &[u16],
-    contexts: &[u16],
-    leads: &[u16],
-    table: &mut [u16],
-)
-    requires { (n ≤ 128) × Reach n leasts.now chosen.now contexts.now leads.now }
-    ensures { (totals : List ℕ) (rules : ℕ) → length_for n rules ≤ length table.old →
-        table.new ≡ entered_to n rules (found_in leasts.now chosen.now contexts.now
-        leads.now totals) table.old n }
+// The total of each rule, after them.
+fn fill_totals(figures: GrammarFigures<'_>, table: &mut [u16])
+    ensures { (choices : Choices) (before : List ℕ) → HasRoom figures.entry before → TotalledTo figures.entry choices 0 before table.old →
+        TotalledTo figures.entry choices figures.entry.reading.now.rules before table.new }
 {
-    let mut a = 0;
-    while a < n {
-        entries::write(
+    let reading = figures.reading;
+    for r in 0..reading.rules {
+        entries::write_total(
             table,
-            narrow(a),
-            entries_of(a, leasts, chosen, contexts, leads),
+            reading.nonterminals,
+            r,
+            figures.totals[usize::from(r)],
         );
-        a += 1;
     }
-}
-
-// The totals of so many rules, after them.
-fn fill_totals(n: usize, rules: usize, totals: &[u16; 256], table: &mut [u16])
-    requires { (n ≤ 128) × (rules ≤ 256) }
-    ensures { (leasts chosen contexts leads before : List ℕ) → length_for n rules ≤ length before →
-        table.old ≡ totalled_to n rules (found_in leasts chosen contexts leads totals.now) before 0 →
-        table.new ≡ totalled_to n rules (found_in leasts chosen contexts leads totals.now) before rules }
-{
-    let mut r = 0;
-    while r < rules {
-        entries::write_total(table, narrow(n), narrow(r), totals[r]);
-        r += 1;
-    }
-}
-
-// The entries of each of the n nonterminals, then the totals of so many rules, into the front of table.
-pub fn fill(
-    n: usize,
-    rules: usize,
-    leasts: &[u16],
-    chosen: &[u16],
-    contexts: &[u16],
-    leads: &[u16],
-    totals: &[u16; 256],
-    table: &mut [u16],
-)
-    requires n_bound { (n ≤ 128) × (rules ≤ 256) × (length_for n rules ≤ length table.old) }
-    requires reach { Reach n leasts.now chosen.now contexts.now leads.now }
-    ensures { table.new ≡ over (table_of n rules (found_in leasts.now chosen.now
-        contexts.now leads.now totals.now)) table.old }
-{
-    fill_entries(n, leasts, chosen, contexts, leads, table);
-    fill_totals(n, rules, totals, table);
 }

@@ -9,42 +9,39 @@ mod choices;
 mod contexts;
 mod fill;
 
+ghost use Rattle.std.specs.Prelude.{◌≡◌};
 ghost use Rattle.tables.specs.Promise.{Tables};
 
-use layout::judge::LayoutAnswer;
+use answers::Refusal;
 
 // What `tables` answers: the number of words written, or the refusal's number and place.
-#[derive(Clone, Copy)]
+// Document 01 names this form: an enum for each call family, with a refusal's number and place.
+#[derive(Clone, Copy, Debug, PartialEq, Eq)]
 pub enum TableAnswer {
     Done(usize),
     Refused { number: u16, place: usize },
+}
+
+// Replay and packed have the same impl: document 01 names an enum for each call family.
+impl From<Result<usize, Refusal>> for TableAnswer {
+    ghost use Rattle.tables.specs.Answers.{told};
+
+    ghost from_gives = { λ outcome answer. answer ≡ told outcome };
+
+    fn from(outcome: Result<usize, Refusal>) -> TableAnswer {
+        match outcome {
+            Ok(length) => TableAnswer::Done(length),
+            Err(refusal) => TableAnswer::Refused {
+                number: refusal.number(),
+                place: refusal.place(),
+            },
+        }
+    }
 }
 
 // Writes the table of the grammar that the words are into the front of table. Done carries how many words were written.
 pub fn tables(words: &[u16], table: &mut [u16]) -> TableAnswer
     ensures { Tables words.now table.old result table.new }
 {
-    let found = leasts::leasts(words);
-    let answer = found.answer;
-    match answer {
-        LayoutAnswer::Fault { place } => TableAnswer::Refused {
-            number: answers::BROKEN_LAYOUT,
-            place,
-        },
-        LayoutAnswer::Grammar {
-            nonterminals,
-            terminals: _,
-            start,
-            rules,
-        } => build::of_grammar(
-            words,
-            &found.places,
-            nonterminals,
-            start,
-            rules,
-            &found.leasts,
-            &found.sizes,
-            table,
-        ),
-    }
+    TableAnswer::from(build::worked_out(words, table))
 }

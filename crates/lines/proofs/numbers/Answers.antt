@@ -5,11 +5,11 @@ use Rattle.lines.proofs.WrittenInRoom.{nothing}
 use Rattle.lines.proofs.NumbersSpaced.{next_number}
 use Rattle.lines.proofs.numbers.Goals as goal
 
-pub loop-i-init : goal.loop-i-init
+pub loop-n-init : goal.loop-n-init
 unfolding spaced
-loop-i-init c = (omega arith, nothing _ _)
+loop-n-init c = nothing _ _
 
-pub loop-i-preserved : goal.loop-i-preserved
-loop-i-preserved c =
-    let number = rw c.wide.ensures at c.number-past.ensures in
-    (omega arith, next_number c.args.list.now c.loop-i.i (omega arith) c.loop-i.invariant.1 number)
+pub loop-n-preserved : goal.loop-n-preserved
+loop-n-preserved c =
+    let number = rw c.from.ensures at c.number-past.ensures in
+    next_number c.args.list.now c.loop-n.n-index (omega arith) c.loop-n.invariant number

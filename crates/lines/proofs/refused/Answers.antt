@@ -6,6 +6,6 @@ use Rattle.lines.proofs.refused.Goals as goal
 pub returns : goal.returns
 unfolding refused_line spaced
 returns c =
-    let number = rw c.wide.ensures at c.number-first.ensures in
+    let number = rw c.from.ensures at c.number-first.ensures in
     let numbers = and_then number (and_then c.number-second.ensures (nothing _ _)) in
     and_then (and_then c.word-worded.ensures numbers) c.put.ensures

@@ -1,12 +1,7 @@
--- `marks::mark_rules` meets its contract. The loop's invariant: the numbers passed are marked. The measure is what is
--- left of the numbers. Assumes nothing.
-use Prim.Native.Nat.{◌-◌, ◌≤◌}
-use lib.ListN.{take}
+-- `marks::mark_rules` meets its contract. The loop's invariant: the numbers passed are marked. Assumes nothing.
+use mathlib.Core.List.{map}
 use Rattle.marks.specs.Marks.{Marked}
 use Rattle.marks.proofs.mark_rules.Given as goal
 
-abbrev pub invariant-loop-i : goal.invariant-loop-i
-invariant-loop-i l = (l.i ≤ l.count) × Marked (take l.i l.derivation) l.initial.marks l.marks
-
-abbrev pub decreases-loop-i : goal.decreases-loop-i
-decreases-loop-i l = l.count - l.i
+abbrev pub invariant-loop-rule : goal.invariant-loop-rule
+invariant-loop-rule l = Marked (map (λ rule. rule.now) l.yielded) l.initial.marks l.marks

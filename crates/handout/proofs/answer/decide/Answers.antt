@@ -1,9 +1,10 @@
--- `handout::answer::decide` meets its contract: 4 to 8 without the table, and the others with it. Assumes nothing.
-use Rattle.handout.proofs.NextOutcomes.{refuses_untabled, own_table}
+-- `handout::answer::decide` meets its contract: 9, Finished, or what the target comes to. Assumes nothing.
+use Rattle.answers.proofs.HandedOn.{handed_on}
+use Rattle.handout.proofs.NextOutcomes.{wants, refuses_room}
 use Rattle.handout.proofs.answer.decide.Goals as goal
 
-pub with_table-requires : goal.with_table-requires
-with_table-requires c = own_table c.requires c.in-Its.is c.narrow.ensures.1 c.narrow-in-Its.ensures.1
-
-pub returns-in-NotIts : goal.returns-in-NotIts
-returns-in-NotIts c = λ before e l m. refuses_untabled c.requires.tested c.in-NotIts.is c.without_table.ensures before
+pub returns-in_err-find_room : goal.returns-in_err-find_room
+returns-in_err-find_room c =
+    let w = wants c.args.tabled.now c.from-rules.ensures c.if-marks-rules.false c.in-Some.ensures c.narrow-target.ensures.1 in
+    rw (handed_on c.from_residual.result c.from_residual.ensures.1)
+    (refuses_room c.args.tabled.now _ w c.in_err-find_room.ensures)

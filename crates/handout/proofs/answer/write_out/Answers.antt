@@ -1,9 +1,12 @@
 -- `handout::answer::write_out` meets its contract: what was listed is the sentence, and its rules are marked. Assumes nothing.
-use Rattle.handout.proofs.NextOutcomes.{ready, hands_out}
+use Rattle.std.proofs.Common.{rules, refl}
+use Rattle.handout.specs.Next.{Lent}
+use Rattle.handout.proofs.NextOutcomes.{hands_out}
 use Rattle.handout.proofs.answer.write_out.Goals as goal
 
-pub list_tree-listed-requires : goal.list_tree-listed-requires
-list_tree-listed-requires c = ready c.requires.0
-
 pub returns : goal.returns
-returns c = hands_out _ c.requires.0 c.requires.1 c.list_tree-listed.ensures c.mark_rules.ensures
+returns c =
+    let lent : Lent = record { marks = c.args.marks.now; tokens = c.args.sentence.now; rules = c.args.derivation.now } in
+    rw c.from.ensures
+    (hands_out c.args.tabled.now lent c.requires.wanted refl refl refl refl c.requires.fits c.list_tree.ensures.listed (search rules)
+    (search rules) c.mark_rules.ensures)

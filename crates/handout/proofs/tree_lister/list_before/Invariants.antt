@@ -1,16 +1,11 @@
--- `handout::tree_lister::list_before` meets its contract: the loop's invariant is that what lies before the nonterminal i steps up
--- is listed. Assumes nothing.
-use Rattle.std.proofs.Common.{ℕ, ◌≤◌}
-use Rattle.handout.specs.Listing.{lengths}
-use Rattle.handout.specs.TreeListing.{climbed, PathOf, before, SideListed, none_so_far}
+-- `handout::tree_lister::list_before` meets its contract. The loop's invariant: what lies before the nonterminal where the rest of the
+-- way begins is listed. Assumes nothing.
+use Rattle.std.proofs.Common.{◌-◌, length, drop}
+use Rattle.handout.specs.Listing.{SameParts}
+use Rattle.handout.specs.TreeListing.{before, WayListed}
 use Rattle.handout.proofs.tree_lister.list_before.Given as goal
 
-abbrev pub invariant-loop-i : goal.invariant-loop-i
-invariant-loop-i l =
-    (l.i ≤ l.steps) ×
-    ((start A : ℕ) → PathOf l.words l.places l.table start A l.path l.steps →
-    SideListed before l.words l.places l.table l.n start (climbed l.words l.places l.table A l.i) l.initial.sentence l.sentence
-    l.initial.derivation l.derivation none_so_far (lengths l.so))
-
-abbrev pub decreases-loop-i : goal.decreases-loop-i
-decreases-loop-i l = l.i
+abbrev pub invariant-loop-a : goal.invariant-loop-a
+invariant-loop-a l =
+    SameParts l.initial.out l.out ×
+    WayListed before l.tabled (drop (length l.way - length l.yielded) l.way) l.initial.out l.out

@@ -1,17 +1,12 @@
--- `layout::judge::note` meets its contract: a fault of the head is the layout's, and else the rules decide.
--- Assumes nothing.
-use mathlib.Core.Path.{◌∙◌}
-use Rattle.layout.proofs.AnswerJudged.{head_faulted, head_passed, none_noted}
+-- What the check leaves of `layout::judge::note`: the rest of the words is the promise of the rules. Assumes nothing.
+use Rattle.layout.proofs.AnswerJudged.{head_passed, rules_shaped, rules_noted}
 use Rattle.layout.proofs.judge.note.Goals as goal
 
-pub note_after_head-requires : goal.note_after_head-requires
-note_after_head-requires c =
-    let h = c.judge_head in
-    record { head = head_passed c.args.words.now h.result _ h.ensures c.in-Fit.is; places_value = c.requires }
-
-pub returns-in-Fault : goal.returns-in-Fault
-returns-in-Fault c =
-    let h = c.judge_head in
-    let ws = c.args.words.now in
-    let e = head_faulted ws h.result _ h.ensures c.in-Fault.is in
-    record { value = c.fault.ensures.value ∙ e; places_after = c.fault.ensures.places_after ∙ none_noted ws e }
+pub returns-clause-places_after : goal.returns-clause-places_after
+returns-clause-places_after c =
+    let words = c.args.words in
+    let r = c.judge_rules in
+    let head = head_passed words c.judge.result _ c.judge.ensures c.in_ok-judge.was in
+    let told = rw head.same at r.ensures.places_told in
+    let numbered = rw head.same at r.ensures.rules_numbered in
+    rules_noted words.now _ _ r.result told c.requires (rules_shaped words _ r.result head numbered)

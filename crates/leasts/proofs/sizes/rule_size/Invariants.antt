@@ -1,12 +1,6 @@
--- `leasts::sizes::rule_size` meets its contract: the loop's invariant is `Summed`. The measure is what is left of the length.
--- Assumes nothing.
-use Prim.Native.Nat.{◌≤◌, ◌-◌}
-use lib.ListN.{length}
+-- `leasts::sizes::rule_size` meets its contract: the loop's invariant is `Summed`. Assumes nothing.
 use Rattle.leasts.proofs.RuleSummed.{Summed}
 use Rattle.leasts.proofs.sizes.rule_size.Given as goal
 
-abbrev pub invariant-loop-i : goal.invariant-loop-i
-invariant-loop-i l = (l.i ≤ length l.symbols) × Summed l.n l.leasts l.symbols l.i l.sum
-
-abbrev pub decreases-loop-i : goal.decreases-loop-i
-decreases-loop-i l = length l.symbols - l.i
+abbrev pub invariant-loop-s : goal.invariant-loop-s
+invariant-loop-s l = Summed l.rule l.leasts l.s-index l.sum

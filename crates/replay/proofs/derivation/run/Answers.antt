@@ -1,36 +1,36 @@
 -- What the check leaves of `replay::derivation::run`; the argument stands in Invariants.antt. Assumes nothing.
-use mathlib.Core.Path.{refl}
-use Rattle.replay.proofs.ReplayRun.{held_start, kept_start, onward, held_passed, held_on, held_end, held_stop}
-use borrow.Author.Rules.{rules}
+use Rattle.answers.proofs.HandedOn.{handed_on}
+use Rattle.replay.proofs.ReplayStepped.{passes_kept, passes_low}
+use Rattle.replay.proofs.ReplayRun.{held_start, low_start, kept_start, held_on, held_passed, held_end, held_stop}
 use Rattle.replay.proofs.derivation.run.Goals as goal
 
 pub loop-more-init : goal.loop-more-init
-loop-more-init c =
-    let p = c.requires in
-    (kept_start p.1.0 p.1.1, refl, refl, λ g view. held_start g view _ _ _)
+loop-more-init c = record {
+  kept = kept_start c.args.list.now c.args.stack.now c.requires;
+  low = λ _. low_start c.args.list.now c.args.stack.now;
+  held = λ g view. held_start c.args.list.now c.args.stack.now view c.args.sentence.now;
+}
+
+pub returns-in_err-more : goal.returns-in_err-more
+returns-in_err-more c =
+    let inv = c.loop-more.invariant in
+    λ g view. rw (handed_on c.from_residual.result c.from_residual.ensures.1)
+    (held_stop (inv.held g view) (c.in_err-more.ensures.turned g view inv.low))
 
 pub loop-more-preserved : goal.loop-more-preserved
 loop-more-preserved c =
     let inv = c.loop-more.invariant in
-    let p = c.pass_tokens-form.ensures in
-    let z = c.step.ensures in
-    let e = c.in-On.is in (
-      (onward _ e z.bounded).kept,
-      search rules,
-      search rules,
-      λ g view. held_on (held_passed (inv.3 g view) inv.0 view p) _ _ (z.turned g _ view p.stops) e,
-    )
+    let on = rw c.in-Some.is at c.in_ok-more.ensures in
+    let kept = on.bounded.kept in
+    let passed = c.pass_tokens-form.ensures in
+    record {
+      kept = passes_kept kept passed;
+      low = passes_low kept passed;
+      held = λ g view. held_passed (held_on (inv.held g view) (on.turned g view inv.low)) kept view passed;
+    }
 
-pub returns-in-End : goal.returns-in-End
-returns-in-End c =
+pub returns : goal.returns
+returns c =
     let inv = c.loop-more.invariant in
-    let p = c.pass_tokens-form.ensures in
-    let turned = c.step.ensures.turned in
-    λ g view. record { ended = held_end (held_passed (inv.3 g view) inv.0 view p) _ _ (turned g _ view p.stops) c.in-End.is }
-
-pub returns-in-Stop : goal.returns-in-Stop
-returns-in-Stop c =
-    let inv = c.loop-more.invariant in
-    let p = c.pass_tokens-form.ensures in
-    let turned = c.step.ensures.turned in
-    λ g view. record { ended = held_stop (held_passed (inv.3 g view) inv.0 view p) _ _ (turned g _ view p.stops) c.in-Stop.is }
+    let end = rw c.in_default.is at c.in_ok-more.ensures in
+    λ g view. held_end (inv.held g view) (end.turned g view inv.low)

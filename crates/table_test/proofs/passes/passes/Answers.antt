@@ -1,13 +1,17 @@
--- `table_test::passes::passes` meets its contract: the numbers of a grammar are words. Assumes nothing.
-use Rattle.table_test.proofs.WordsTested.{narrow_view, narrow_start, of_words}
+-- What the check leaves of `table_test::passes::passes`: it makes all the tests, and they are exact. Assumes nothing.
+use native.Mathlib.Omega.{arith}
+use Rattle.table_test.proofs.RulesRead.{table_tests}
 use Rattle.table_test.proofs.passes.passes.Goals as goal
 
-pub returns : goal.returns
-returns c =
-    let p = c.requires in
-    let table = c.args.table.now in
-    let n = c.narrow.ensures.1 in
-    let start = c.narrow-2.ensures.1 in
-    let rules = c.narrow-3.ensures.1 in
-    of_words p table c.all_pass.result
-    (c.all_pass.ensures p.grammar (narrow_view p n start rules) (narrow_start p n start rules))
+pub returns-then-choices_pass : goal.returns-then-choices_pass
+returns-then-choices_pass c g view =
+    let tests = table_tests c.args.reading.now view c.args.table.now in
+    let choices = c.choices_pass.ensures g view in
+    let rules = c.rules_pass.ensures g view in
+    (λ e. tests.1 (omega arith, choices.0 c.if-choices_pass.true, rules.0 e), λ own. rules.1 (tests.0 own).2)
+
+pub returns-else-choices_pass : goal.returns-else-choices_pass
+returns-else-choices_pass c g view =
+    let tests = table_tests c.args.reading.now view c.args.table.now in
+    let choices = c.choices_pass.ensures g view in
+    grind arith

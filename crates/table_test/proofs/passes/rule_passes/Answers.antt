@@ -1,20 +1,26 @@
 -- `table_test::passes::rule_passes` meets its contract: past the limit, by the places, and by the left side. Assumes nothing.
 use native.Mathlib.Omega.{arith}
-use Rattle.table_test.proofs.Telling.{says_same}
-use Rattle.table_test.proofs.RulesRead.{places_fail, rule_passes}
+use Rattle.table_test.proofs.RulesRead.{rule_tests}
 use Rattle.table_test.proofs.passes.rule_passes.Goals as goal
 
-pub returns-then-size-eq0 : goal.returns-then-size-eq0
-returns-then-size-eq0 c g e p =
-    let sized = c.size_passes-size in
-    let right = c.right in
-    places_fail (rw (right.ensures.result_value, e) at sized.ensures.size_passes) c.if-size-eq0.true p.places
+pub returns-then-total-gt-LIMIT : goal.returns-then-total-gt-LIMIT
+returns-then-total-gt-LIMIT c g view =
+    let a = c.args in
+    let tests = rule_tests a.reading.now view a.table.now a.number c.total-total.result c.requires c.total-total.ensures.0 in
+    grind arith
+
+pub returns-in_default : goal.returns-in_default
+returns-in_default c g view =
+    let a = c.args in
+    let tests = rule_tests a.reading.now view a.table.now a.number c.total-total.result c.requires c.total-total.ensures.0 in
+    let fails = rw c.in_default.is at c.size_passes.ensures.size in
+    grind arith
 
 pub returns : goal.returns
-returns c g e =
-    let read = c.read in
-    let sized = c.size_passes-size in
-    let right = c.right in
-    let z = rw (right.ensures.result_value, e) at sized.ensures.size_passes in
-    says_same c.left_passes.result (rule_passes g (omega arith) z c.if-size-eq0.false)
-    (rw read.ensures at c.left_passes.ensures)
+returns c g view =
+    let a = c.args in
+    let tests = rule_tests a.reading.now view a.table.now a.number c.total-total.result c.requires c.total-total.ensures.0 in
+    let (places, size) = c.in-Some.ensures.size in
+    let same = size g view.nonterminals in
+    let left = rw (c.left.ensures, same) at c.left_passes.ensures in
+    (λ e. tests.1 (omega arith, places, left.0 e), λ p. left.1 (tests.0 p).2)

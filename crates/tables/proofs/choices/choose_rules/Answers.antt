@@ -1,41 +1,26 @@
 -- What the check leaves of `tables::choices::choose_rules`; the argument stands in Invariants.antt. Assumes nothing.
-use Prim.Native.Nat.{ℕ}
-use mathlib.Core.Path.{◌≡◌, refl, ap, ◌∙◌}
+use mathlib.Core.Path.{sym, ap, ◌∙◌}
 use native.Mathlib.Omega.{arith}
-use lib.ListN.{get_or}
-use Rattle.tables.proofs.FirstsNoted.{firsts_empty, empty_room}
-use Rattle.layout.proofs.RulesInView.{viewed_room}
-use Rattle.tables.proofs.RulesChosen.{rule_chosen}
+use Rattle.figures.specs.Figures.{figure}
+use Rattle.tables.proofs.RulesChosen.{none_chosen, rule_noted, rule_passed}
+use Rattle.tables.proofs.choices.choose_rules.Goals.{then-figure_at-rule_size, else-figure_at-rule_size}
 use Rattle.tables.proofs.choices.choose_rules.Goals as goal
 
 pub loop-r-init : goal.loop-r-init
-loop-r-init c =
-    let a = c.args in (
-      omega arith,
-      refl,
-      λ g n view empty. firsts_empty _ g.N a.chosen.now empty (viewed_room view (omega arith)),
-    )
+loop-r-init c g view = none_chosen c.args.found.now.reading view c.args.found.now.leasts c.args.found.now.sizes
 
 pub loop-r-preserved : goal.loop-r-preserved
-loop-r-preserved c =
-    let chose = c.choose_rule in
-    let word = c.word in
-    let at = c.index-at in
-    let loop = c.loop-r in
-    let a = c.args in (
-      omega arith,
-      chose.auto.chosen ∙ loop.invariant.1,
-      λ g n view empty.
-          let room = empty_room a.chosen.now empty in
-          let left = word.ensures ∙ ap (λ (p : ℕ). get_or a.words.now p 0) at.ensures in
-          let noted = rw left at chose.ensures in
-          let so_far = loop.invariant.2 g n view empty in
-          rule_chosen view a.leasts.now a.sizes.now loop.r (omega arith) noted (omega (arith, loop.invariant.1))
-          (omega arith) so_far,
-    )
-
-pub returns : goal.returns
-returns c g n view empty =
-    let a = c.args in
-    let e : c.loop-r.r ≡ a.rules = omega arith in
-    rw e at (c.loop-r.invariant.2 g n view empty)
+loop-r-preserved c g view =
+    let f = c.args.found.now in
+    let so_far = c.loop-r.invariant g view in
+    let left = c.from-left.ensures ∙ c.left.ensures in
+    let least = c.figure_at.ensures.value ∙ ap (figure f.leasts) left in
+    let size = c.rule_size.ensures.0 in
+    elim c.if-figure_at-rule_size.branch [
+      | then-figure_at-rule_size w ↦
+          rw w.chosen-is (rule_noted f.reading view f.leasts f.sizes c.loop-r.r (omega arith) c.loop-r.chosen so_far
+          (sym least ∙ w.if-figure_at-rule_size.true ∙ size) (rw left at w.note.ensures) (omega arith))
+      | else-figure_at-rule_size w ↦
+          rw w.chosen-is (rule_passed f.reading view f.leasts f.sizes c.loop-r.r (omega arith) c.loop-r.chosen so_far
+          (λ e. w.if-figure_at-rule_size.false (least ∙ e ∙ sym size)))
+    ]

@@ -1,11 +1,10 @@
 -- What the check leaves of `tables::contexts::lower_contexts`; the argument stands in Invariants.antt. Assumes nothing.
-use mathlib.Core.Path.{◌≡◌, refl}
+use mathlib.Core.Path.{◌≡◌}
 use mathlib.Core.List.{List, []}
 use Prim.Native.Nat.{ℕ, ◌+◌, ◌<◌}
-use native.Mathlib.Nat.{zero-add, add-zero, add_assoc}
+use native.Mathlib.Nat.{add-zero, add_assoc}
 use native.Mathlib.Numerals.{add-one}
 use native.Mathlib.Omega.{arith}
-use borrow.Author.Rules.{rules}
 use lib.ListN.{length, drop, drop_of_length-le, get_or}
 use lib.Seq.{drop-cons}
 use Rattle.tables.specs.ContextSteps.{PlaceStep, PlacesStep, no_symbol, symbol}
@@ -18,24 +17,17 @@ module _ {n whole : ℕ} {vs : List ℕ} where
       PlacesStep n whole vs (drop (i + 1) w) us' us'' k → PlacesStep n whole vs (drop i w) us us'' (f + k)
   from_place w i h p ps = rw (drop-cons w i 0 h) (symbol p (rw add-one at ps))
 
-pub loop-i-init : goal.loop-i-init
-loop-i-init c = (refl, omega arith, omega arith, λ us f ps. rw zero-add ps)
-
-pub overflow_add-fell : goal.overflow_add-fell
-overflow_add-fell c = omega (arith, place_once c.lower_context-fell.ensures)
-
-pub loop-i-preserved : goal.loop-i-preserved
-loop-i-preserved c =
-    let a = c.args in
+pub loop-s-preserved : goal.loop-s-preserved
+loop-s-preserved c =
+    let loop = c.loop-s in
     let step = c.lower_context-fell.ensures in (
-      search rules,
       omega (arith, place_once step),
-      omega arith,
-      λ us f ps. rw add_assoc (c.loop-i.invariant.3 us _ (from_place a.symbols.now c.loop-i.i (omega arith) step ps)),
+      λ us f ps. rw add_assoc (loop.invariant.1 us _ (from_place c.args.symbols.now loop.s-index (omega arith) step ps)),
     )
 
 pub returns : goal.returns
 returns c =
-    let a = c.args in
-    let e : drop c.loop-i.i a.symbols.now ≡ [] = drop_of_length-le a.symbols.now {i = c.loop-i.i} (omega arith) in
-    rw add-zero at (c.loop-i.invariant.3 c.loop-i.contexts 0 (rw e no_symbol))
+    let symbols = c.args.symbols.now in
+    let loop = c.loop-s in
+    let e : drop loop.s-index symbols ≡ [] = drop_of_length-le symbols {i = loop.s-index} (omega arith) in
+    rw add-zero at (loop.invariant.1 loop.contexts 0 (rw e no_symbol))

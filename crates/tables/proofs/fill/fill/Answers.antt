@@ -1,14 +1,13 @@
 -- `tables::fill::fill` meets its contract: the entries of the nonterminals, then the totals. Assumes nothing.
 use Rattle.entries.proofs.EntriesWritten.{all_entered, all_written}
-use Rattle.tables.specs.Filling.{found_in}
+use Rattle.tables.specs.Filling.{figures_in}
 use Rattle.tables.proofs.fill.fill.Goals as goal
 
 pub returns : goal.returns
 returns c =
-    let room = c.requires.n_bound.2 in
     let a = c.args in
-    let F = found_in a.leasts.now a.chosen.now a.contexts.now a.leads.now a.totals.now in
-    let entered = c.fill_entries.ensures a.totals.now a.rules room in
-    all_written a.n a.rules F a.table.now room
-    (c.fill_totals.ensures a.leasts.now a.chosen.now a.contexts.now a.leads.now a.table.now
-    room (all_entered a.n a.rules F a.table.now room entered))
+    let v = a.figures.reading.now in
+    let F = figures_in a.figures a.choices.now in
+    all_written v.nonterminals v.rules F a.table.now c.requires
+    (c.fill_totals.ensures a.choices.now a.table.now c.requires
+    (all_entered v.nonterminals v.rules F a.table.now c.requires c.fill_entries.ensures))
