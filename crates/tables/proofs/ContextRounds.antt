@@ -251,7 +251,8 @@ module _ {found : FoundLeasts} where
     }
 
   -- there is no next rule
-  pub followed_out : {k : ℕ} {f : Bool} {before after : Contexts} → Followed found k before after f None → SeenTurn found k before after f
+  pub followed_out : {k : ℕ} {f : Bool} {before after : Contexts} → Followed found k before after f None →
+      SeenTurn found k before after f
   followed_out so_far = record {
     fallen = so_far.fallen;
     keeps = so_far.keeps;

@@ -45,7 +45,8 @@ module _ {n whole : ℕ} {vs : List ℕ} where
   places_no_higher (symbol p ps) A = omega (arith, place_no_higher p A, places_no_higher ps A)
 
 module _ {n size k B : ℕ} {vs w : List ℕ} where
-  pub context_length : {f : ℕ} {us us' seen seen' : List ℕ} → ContextStep n size vs k B w us seen us' seen' f → length us' ≡ length us
+  pub context_length : {f : ℕ} {us us' seen seen' : List ℕ} → ContextStep n size vs k B w us seen us' seen' f →
+      length us' ≡ length us
   context_length (as_seen e) = refl
   context_length (unseen room small differs ps) = places_length ps
 

@@ -78,7 +78,8 @@ module _ (v : Reading) {g : Grammar} (view : ReadsAs v g) (vs us totals : List �
             (λ A y is f. is_s A (here A i y (omega (arith, short rule_read.1)) is f).holds) so_far)
 
         -- does not fit
-        pub place_passed : ¬ ((s < g.N) × (figure vs s + figure us s ≡ get_or totals r 0)) → LeadsOf g vs us totals xs (32 * r + (i + 1))
+        pub place_passed : ¬ ((s < g.N) × (figure vs s + figure us s ≡ get_or totals r 0)) →
+            LeadsOf g vs us totals xs (32 * r + (i + 1))
         place_passed other = places_past (i + 1) (omega arith) (omega (arith, short rule_read.1)) unfit
           where
             unfit : (A p : ℕ) → A < g.N → i ≤ p → p < i + 1 → ¬ FitsHere A p

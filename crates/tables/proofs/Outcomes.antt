@@ -81,8 +81,8 @@ module _ {words : Bor (List ℕ)} {found : FoundLeasts} (of_words : FiguresFound
       placed search = contexts_found known.grammar found.leasts known.leasts us rest (rw known.view.nonterminals at search)
 
     -- 7, 3, or the table
-    module _ (us totals : List ℕ) (done : ContextsDone known.grammar found.leasts us) (of-totals : TotalsOf known.grammar us found.sizes totals)
-        (long : 256 ≤ length totals) where
+    module _ (us totals : List ℕ) (done : ContextsDone known.grammar found.leasts us)
+        (of-totals : TotalsOf known.grammar us found.sizes totals) (long : 256 ≤ length totals) where
       ok : InBounds known.grammar
       ok = in_bounds found.reading.words.now known.view.is
 
@@ -108,8 +108,8 @@ module _ {words : Bor (List ℕ)} {found : FoundLeasts} (of_words : FiguresFound
         needed : length_for found.reading.nonterminals found.reading.rules ≡ table_length known.grammar
         needed = rw (known.view.nonterminals, known.view.all_rules) refl
 
-        pub refuses_3 : {before : List ℕ} {m : ℕ} → m ≡ length_for found.reading.nonterminals found.reading.rules → length before < m →
-            Tables words.now before (Refused 3 m) before
+        pub refuses_3 : {before : List ℕ} {m : ℕ} → m ≡ length_for found.reading.nonterminals found.reading.rules →
+            length before < m → Tables words.now before (Refused 3 m) before
         refuses_3 is l = rw (is, needed) (row_3 (is_read known.view) accepts (omega (arith, l, is, needed)))
 
         -- no total is cut
@@ -128,12 +128,15 @@ module _ {words : Bor (List ℕ)} {found : FoundLeasts} (of_words : FiguresFound
             m ≤ length before → (chosen : List (Option ℕ)) (leads : List (Option Lead)) →
             ChosenOf known.grammar found.leasts found.sizes chosen found.reading.rules →
             LeadsOf known.grammar found.leasts us totals leads (32 * found.reading.rules) →
-            after ≡ over (table_of found.reading.nonterminals found.reading.rules (found_in found.leasts chosen us leads totals)) before →
+            after ≡ over (table_of found.reading.nonterminals found.reading.rules
+            (found_in found.leasts chosen us leads totals)) before →
             Tables words.now before (Done m) after
         finishes {before} is l chosen leads of_chosen of_leads filled =
             let all = figures known.grammar found.leasts known.leasts us done in
-            let (leasts, contexts) = all_fit_exact limit (omega arith) known.grammar (figure found.leasts) (figure us) all accepts.fit in
-            let table = table_found known.grammar ok found.leasts us found.sizes totals chosen leads leasts contexts known.sizes_are exact
+            let (leasts, contexts) =
+            all_fit_exact limit (omega arith) known.grammar (figure found.leasts) (figure us) all accepts.fit in
+            let table = table_found known.grammar ok found.leasts us found.sizes totals chosen leads leasts contexts known.sizes_are
+            exact
             (rw known.view.all_rules at of_chosen) (rw known.view.all_rules at of_leads) in
             let written = rw (known.view.nonterminals, known.view.all_rules) at filled in
             rw (is, needed, written) (row_done (is_read known.view) accepts (omega (arith, l, is, needed)) table)

@@ -1,7 +1,7 @@
 -- The words that are written are the table: where no total is above 4,096 no figure is cut, so the leasts and the contexts are
--- true, and the first rule noted for each nonterminal is its chosen rule, the first lead its context rule and place. A lead's rank is
--- 32 times the rule and the place, so that the first is the lowest rule and then the leftmost place; for the start no lead can be
--- noted, since its context is 0 and every place adds a rule's use. Assumes nothing.
+-- true, and the first rule noted for each nonterminal is its chosen rule, the first lead its context rule and place. A lead's rank
+-- is 32 times the rule and the place, so that the first is the lowest rule and then the leftmost place; for the start no lead can
+-- be noted, since its context is 0 and every place adds a rule's use. Assumes nothing.
 use Prim.Native.Nat.{ℕ, ◌+◌, ◌*◌, ◌≤◌, ◌<◌}
 use native.Mathlib.Omega.{arith}
 use native.Mathlib.Decide.{dec_lt}
@@ -135,7 +135,11 @@ module _ (g : Grammar) (ok : InBounds g) (vs us sizes totals : List ℕ)
         chosen = λ A lt. rw (at_chosen g.N (R g) F A lt) (chosen_lowest A lt);
         contexts = λ A lt. at_context g.N (R g) F A lt;
         choices = λ A lt d. rw (at_rule g.N (R g) F A lt, at_place g.N (R g) F A lt) (lead_first A lt d);
-        start_rule = at_rule g.N (R g) F g.start ok.start_below ∙ ap (λ (o : Option Lead). (lead_or_none o).rule) (start_none ok.start_below);
-        start_place = at_place g.N (R g) F g.start ok.start_below ∙ ap (λ (o : Option Lead). (lead_or_none o).place) (start_none ok.start_below);
+        start_rule =
+            at_rule g.N (R g) F g.start ok.start_below ∙
+            ap (λ (o : Option Lead). (lead_or_none o).rule) (start_none ok.start_below);
+        start_place =
+            at_place g.N (R g) F g.start ok.start_below ∙
+            ap (λ (o : Option Lead). (lead_or_none o).place) (start_none ok.start_below);
         totals = λ r A w rule. at_total g.N (R g) F r (rule_number rule) ∙ total_of rule;
       })

@@ -1,5 +1,6 @@
--- For the private functions of choices: a choice for each nonterminal, where it has one: its chosen rule, or its lead, the context rule
--- and the place there. And what noting one does. Nobody has to believe this file; the promises do not cite it. Assumes nothing.
+-- For the private functions of choices: a choice for each nonterminal, where it has one: its chosen rule, or its lead, the context
+-- rule and the place there. And what noting one does. Nobody has to believe this file; the promises do not cite it. Assumes
+-- nothing.
 use Rattle.std.specs.Prelude.{ℕ, ◌+◌, ◌*◌, ◌≤◌, ◌<◌, ◌≡◌, List, Option, Some, None, length, get_or, set}
 use Rattle.grammar.specs.Words.{Grammar, RuleAt}
 use Rattle.grammar.specs.Certificates.{Holds}

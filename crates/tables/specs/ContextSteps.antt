@@ -34,7 +34,8 @@ pub data ContextStep (n size : ℕ) (vs : List ℕ) (k B : ℕ) (w us seen : Lis
 
 abbrev pub RuleStep : FoundLeasts → ℕ → Contexts → Contexts → ℕ → Type 0
 RuleStep found k before after n =
-    ContextStep found.reading.nonterminals (get_or found.sizes k 0) found.leasts k (left_of found.reading k) (right_of found.reading k)
+    ContextStep found.reading.nonterminals (get_or found.sizes k 0) found.leasts k (left_of found.reading k)
+    (right_of found.reading k)
     before.figures before.seen after.figures after.seen n
 
 -- A rule B ⟶ w that was tried with this context of B lowers no context until that of B falls; and B has one.
@@ -50,8 +51,8 @@ pub record Stands (g : Grammar) (vs us seen : List ℕ) : Type 0 where
 abbrev pub KnownOf : {found : FoundLeasts} → Grown found → Contexts → Type 0
 KnownOf {found} grown contexts = Stands grown.grammar found.leasts contexts.figures contexts.seen
 
--- The turn of rule k, whether a context fell, and a round over the rules, in which so many contexts fell, at least: they keep what is
--- known, and where nothing fell no context changed, and the rule is quiet, or every rule.
+-- The turn of rule k, whether a context fell, and a round over the rules, in which so many contexts fell, at least: they keep what
+-- is known, and where nothing fell no context changed, and the rule is quiet, or every rule.
 pub record SeenTurn (found : FoundLeasts) (k : ℕ) (before after : Contexts) (fell : Bool) : Type 0 where
   pub fallen : Fallen before.figures after.figures (from_bool fell)
   pub keeps : (grown : Grown found) → KnownOf grown before → KnownOf grown after

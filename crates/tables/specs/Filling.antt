@@ -19,7 +19,8 @@ rule_or_none o = unwrap_or o no_choice
 abbrev pub lead_or_none : Option Lead → Lead
 lead_or_none o = unwrap_or o (record { rule = no_choice; place = no_choice })
 
-unfoldable pub found_in : (leasts : List ℕ) (chosen : List (Option ℕ)) (contexts : List ℕ) (leads : List (Option Lead)) (totals : List ℕ) →
+unfoldable pub found_in : (leasts : List ℕ) (chosen : List (Option ℕ)) (contexts : List ℕ) (leads : List (Option Lead))
+    (totals : List ℕ) →
     Figures measure
 found_in leasts chosen contexts leads totals = record {
   least = figure leasts;
@@ -31,7 +32,7 @@ found_in leasts chosen contexts leads totals = record {
 }
 
 abbrev pub figures_in : GrammarFigures → Choices → Figures measure
-figures_in f c = found_in f.leasts.now c.chosen f.contexts.now c.leads f.totals.now
+figures_in f c = found_in f.leasts.now c.chosen.now f.contexts.now c.leads.now f.totals.now
 
 -- A buffer has room for the table; it has the entries of the nonterminals below a in it; those of all, and the totals of the rules
 -- below r; and the table.

@@ -14,10 +14,10 @@ pub struct Lead {
 }
 
 // For each nonterminal its chosen rule, and its lead, where it has one.
-#[derive(Drop)]
-pub struct Choices {
-    pub chosen: [Option<u16>; 128],
-    pub leads: [Option<Lead>; 128],
+#[derive(Clone, Copy)]
+pub struct Choices<'a> {
+    pub chosen: &'a [Option<u16>; 128],
+    pub leads: &'a [Option<Lead>; 128],
 }
 
 // Notes a choice for a nonterminal that has none yet.

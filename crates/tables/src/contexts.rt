@@ -4,7 +4,7 @@ ghost use Rattle.std.specs.Prelude.{◌≡◌, ◌≤◌, ◌<◌, length, get_o
 ghost use Rattle.grammar.specs.Words.{Grammar};
 ghost use Rattle.layout.specs.Read.{ReadsAs};
 ghost use Rattle.tables.specs.ContextFigures.{Grown, ContextsRest, TotalsOf};
-ghost use Rattle.tables.specs.ContextSteps.{PlaceStep, PlacesStep, RuleStep, KnownOf, SeenTurn, SeenRound};
+ghost use Rattle.tables.specs.ContextSteps.{PlaceStep, PlacesStep, RuleStep, SeenTurn, SeenRound};
 
 use crate::chains::Chains;
 use figures::{NO_FIGURE, cap, figure_at, in_turn, lower};
@@ -21,8 +21,8 @@ pub struct GrammarFigures<'a> {
     pub totals: &'a [u16; 256],
 }
 
-// The contexts found so far; and what is seen of each rule: the context that its left side had when it was last tried, and NO_FIGURE
-// where it never was.
+// The contexts found so far; and what is seen of each rule: the context that its left side had when it was last tried, and
+// NO_FIGURE where it never was.
 // NO_FIGURE, and no Option: `Stands` of specs/ContextSteps compares the two, and the edit reached_by_naming holds it.
 #[derive(Drop)]
 pub struct Contexts {
@@ -75,18 +75,6 @@ fn lower_contexts(
 }
 
 impl Contexts {
-    // At the outset the start alone has a context, and no rule was tried.
-    fn begin(found: &FoundLeasts<'_>) -> Contexts
-        ensures { (grown : Grown found.now) → KnownOf grown result }
-    {
-        let mut figures = [NO_FIGURE; 128];
-        figures[usize::from(found.reading.start)] = 0;
-        Contexts {
-            figures,
-            seen: [NO_FIGURE; 256],
-        }
-    }
-
     // Rule r, where it was not tried yet with the context that its left side has. How many figures fell.
     fn try_rule(&mut self, found: &FoundLeasts<'_>, r: u16) -> usize
         requires { r < found.now.reading.rules }
@@ -103,8 +91,8 @@ impl Contexts {
         lower_contexts(found, found.reading.right(r), whole, &mut self.figures)
     }
 
-    // The turn of a rule: where a context falls, the rule noted for the last of its symbols is tried next, and so on. Whether one fell
-    // by the first.
+    // The turn of a rule: where a context falls, the rule noted for the last of its symbols is tried next, and so on. Whether one
+    // fell by the first.
     fn turn(&mut self, chains: &Chains<'_>, first: u16) -> bool
         requires { first < chains.now.found.now.reading.rules }
         ensures { SeenTurn chains.now.found.now first self.old self.new result }
@@ -142,7 +130,12 @@ pub fn contexts_of(found: &FoundLeasts<'_>) -> [u16; 128]
     ensures { (grown : Grown found.now) → ContextsRest grown.grammar found.now.leasts result }
 {
     let chains = Chains::of(found);
-    let mut contexts = Contexts::begin(found);
+    // At the outset the start alone has a context, and no rule was tried.
+    let mut contexts = Contexts {
+        figures: [NO_FIGURE; 128],
+        seen: [NO_FIGURE; 256],
+    };
+    contexts.figures[usize::from(found.reading.start)] = 0;
     let mut up = true;
     while 0 < contexts.round(&chains, up) {
         up = !up;

@@ -15,18 +15,18 @@ const NO_LEAD: Lead = Lead {
 };
 
 // The entries of the nonterminals, then the totals of the rules, into the front of table.
-pub fn fill(figures: GrammarFigures<'_>, choices: &Choices, table: &mut [u16])
+pub fn fill(figures: GrammarFigures<'_>, choices: Choices<'_>, table: &mut [u16])
     requires { HasRoom figures table.old }
-    ensures { Filled figures.entry choices.now table.old table.new }
+    ensures { Filled figures.entry choices.entry table.old table.new }
 {
     fill_entries(figures, choices, table);
     fill_totals(figures, table);
 }
 
 // The entries of each nonterminal.
-fn fill_entries(figures: GrammarFigures<'_>, choices: &Choices, table: &mut [u16])
+fn fill_entries(figures: GrammarFigures<'_>, choices: Choices<'_>, table: &mut [u16])
     requires { HasRoom figures table.old }
-    ensures { EnteredTo figures.entry choices.now figures.entry.reading.now.nonterminals table.old table.new }
+    ensures { EnteredTo figures.entry choices.entry figures.entry.reading.now.nonterminals table.old table.new }
 {
     for a in 0..figures.reading.nonterminals {
         entries::write(
@@ -38,9 +38,9 @@ fn fill_entries(figures: GrammarFigures<'_>, choices: &Choices, table: &mut [u16
 }
 
 // The entries of nonterminal a.
-fn entries_of(leasts: &[u16; 128], contexts: &[u16; 128], choices: &Choices, a: u16) -> Entries
+fn entries_of(leasts: &[u16; 128], contexts: &[u16; 128], choices: Choices<'_>, a: u16) -> Entries
     requires { a < 128 }
-    ensures { result ≡ entries_of (found_in leasts.now choices.now.chosen contexts.now choices.now.leads []) a }
+    ensures { result ≡ entries_of (found_in leasts.now choices.entry.chosen.now contexts.now choices.entry.leads.now []) a }
 {
     let a = usize::from(a);
     let lead = choices.leads[a].unwrap_or(NO_LEAD);
@@ -55,7 +55,8 @@ fn entries_of(leasts: &[u16; 128], contexts: &[u16; 128], choices: &Choices, a: 
 
 // The total of each rule, after them.
 fn fill_totals(figures: GrammarFigures<'_>, table: &mut [u16])
-    ensures { (choices : Choices) (before : List ℕ) → HasRoom figures.entry before → TotalledTo figures.entry choices 0 before table.old →
+    ensures { (choices : Choices) (before : List ℕ) → HasRoom figures.entry before →
+        TotalledTo figures.entry choices 0 before table.old →
         TotalledTo figures.entry choices figures.entry.reading.now.rules before table.new }
 {
     let reading = figures.reading;

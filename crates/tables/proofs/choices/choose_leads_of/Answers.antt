@@ -6,7 +6,8 @@ use native.Mathlib.Omega.{arith}
 use lib.ListN.{length, get_or}
 use Rattle.layout.proofs.ReadingBounds.{rules_few}
 use Rattle.tables.proofs.LeadsChosen.{place_noted, place_passed, places_end}
-use Rattle.tables.proofs.choices.choose_leads_of.Goals.{then-s-reading+then-figure_at-total, then-s-reading+else-figure_at-total, else-s-reading}
+use Rattle.tables.proofs.choices.choose_leads_of.Goals.{then-s-reading+then-figure_at-total}
+use Rattle.tables.proofs.choices.choose_leads_of.Goals.{then-s-reading+else-figure_at-total, else-s-reading}
 use Rattle.tables.proofs.choices.choose_leads_of.Goals as goal
 
 pub bounds-totals-from : goal.bounds-totals-from
@@ -24,15 +25,18 @@ loop-place-preserved c g view room before =
     let total = c.from-total.ensures ∙ ap (λ (k : ℕ). get_or f.totals.now k 0) c.from.ensures in
     elim c.if-s-reading.branch [
       | then-s-reading+then-figure_at-total w ↦
-          rw w.leads-is (place_noted f.reading.now view f.leasts.now f.contexts.now f.totals.now r c.requires loop.leads loop.place so_far _ below
+          rw w.leads-is (place_noted f.reading.now view f.leasts.now f.contexts.now f.totals.now r c.requires loop.leads
+          loop.place so_far _ below
           (w.from-a.ensures ∙ s) (omega (arith, total, w.figure_at.ensures.value, w.figure_at-then-s-reading.ensures.value))
           w.note.ensures (omega (arith, loop.auto.leads)))
       | then-s-reading+else-figure_at-total w ↦
-          rw w.leads-is (place_passed f.reading.now view f.leasts.now f.contexts.now f.totals.now r c.requires loop.leads loop.place so_far _ below
+          rw w.leads-is (place_passed f.reading.now view f.leasts.now f.contexts.now f.totals.now r c.requires loop.leads
+          loop.place so_far _ below
           (w.from-a.ensures ∙ s) (λ p. w.if-figure_at-total.false
           (omega (arith, p.1, total, w.figure_at.ensures.value, w.figure_at-then-s-reading.ensures.value))))
       | else-s-reading w ↦
-          rw w.leads-is (place_passed f.reading.now view f.leasts.now f.contexts.now f.totals.now r c.requires loop.leads loop.place so_far _ below s
+          rw w.leads-is (place_passed f.reading.now view f.leasts.now f.contexts.now f.totals.now r c.requires loop.leads
+          loop.place so_far _ below s
           (λ p. omega (arith, p.0, w.if-s-reading.false, view.nonterminals)))
     ]
 

@@ -15,6 +15,6 @@ returns c =
     let at = c.from-a.ensures in
     let least = figure_is x.leasts.now c.from-a.result 0 (omega arith) ∙ ap (figure x.leasts.now) at in
     let context = figure_is x.contexts.now c.from-a.result 0 (omega arith) ∙ ap (figure x.contexts.now) at in
-    let chosen = c.unwrap_or.ensures ∙ ap (λ (a : ℕ). rule_or_none (choice x.choices.now.chosen a)) at in
-    let lead = c.unwrap_or-lead.ensures ∙ ap (λ (a : ℕ). lead_or_none (choice x.choices.now.leads a)) at in
+    let chosen = c.unwrap_or.ensures ∙ ap (λ (a : ℕ). rule_or_none (choice x.choices.chosen.now a)) at in
+    let lead = c.unwrap_or-lead.ensures ∙ ap (λ (a : ℕ). lead_or_none (choice x.choices.leads.now a)) at in
     λ i. record { least = least i; chosen = chosen i; context = context i; rule = (lead i).rule; place = (lead i).place }

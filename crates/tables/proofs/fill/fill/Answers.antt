@@ -7,7 +7,7 @@ pub returns : goal.returns
 returns c =
     let a = c.args in
     let v = a.figures.reading.now in
-    let F = figures_in a.figures a.choices.now in
+    let F = figures_in a.figures a.choices in
     all_written v.nonterminals v.rules F a.table.now c.requires
-    (c.fill_totals.ensures a.choices.now a.table.now c.requires
+    (c.fill_totals.ensures a.choices a.table.now c.requires
     (all_entered v.nonterminals v.rules F a.table.now c.requires c.fill_entries.ensures))

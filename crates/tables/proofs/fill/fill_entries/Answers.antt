@@ -12,7 +12,7 @@ pub loop-a-init : goal.loop-a-init
 loop-a-init c =
     let a = c.args in
     let v = a.figures.reading.now in
-    none_entered v.nonterminals v.rules (figures_in a.figures a.choices.now) a.table.now
+    none_entered v.nonterminals v.rules (figures_in a.figures a.choices) a.table.now
 
 pub entries_of-requires : goal.entries_of-requires
 entries_of-requires c = omega (arith, nonterminals_few c.args.figures.reading.now)
@@ -23,5 +23,6 @@ loop-a-preserved c =
     let a = c.args in
     let v = a.figures.reading.now in
     let loop = c.loop-a in
-    enter_next v.nonterminals v.rules (figures_in a.figures a.choices.now) a.table.now c.requires loop.a c.loop-a-test.true loop.invariant
+    enter_next v.nonterminals v.rules (figures_in a.figures a.choices) a.table.now c.requires loop.a c.loop-a-test.true
+    loop.invariant
     (c.write.ensures ∙ ap (λ (e : Entries). with_entries loop.table loop.a e) c.entries_of.ensures)

@@ -1,5 +1,5 @@
--- `tables::fill::fill_entries` meets its contract: the entries of the nonterminals that the loop has passed stand in the table. Assumes
--- nothing.
+-- `tables::fill::fill_entries` meets its contract: the entries of the nonterminals that the loop has passed stand in the table.
+-- Assumes nothing.
 use Rattle.tables.specs.Filling.{EnteredTo}
 use Rattle.tables.proofs.fill.fill_entries.Given as goal
 

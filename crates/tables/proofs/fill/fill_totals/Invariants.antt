@@ -1,4 +1,5 @@
--- `tables::fill::fill_totals` meets its contract: the totals of the rules that the loop has passed stand in the table. Assumes nothing.
+-- `tables::fill::fill_totals` meets its contract: the totals of the rules that the loop has passed stand in the table. Assumes
+-- nothing.
 use mathlib.Core.List.{List}
 use Prim.Native.Nat.{ℕ}
 use Rattle.tables.specs.Filling.{HasRoom, TotalledTo}

@@ -42,7 +42,8 @@ pub returns-then-context-self : goal.returns-then-context-self
 returns-then-context-self c =
     let v = c.args.found.now.reading in
     passed_over (c.from-left.ensures ∙ c.left.ensures) c.from-k.ensures
-    (omega (arith, left_is_nonterminal v c.args.r c.requires, nonterminals_few v)) (omega (arith, rules_few v)) c.if-context-self.true
+    (omega (arith, left_is_nonterminal v c.args.r c.requires, nonterminals_few v)) (omega (arith, rules_few v))
+    c.if-context-self.true
 
 pub returns : goal.returns
 returns c =
