@@ -5,6 +5,7 @@ pub mod ReplayExact
 pub mod Main
 -- Why the code keeps its promise.
 pub mod FormSteps
+pub mod TokensStored
 pub mod ReplayMoves
 pub mod ReplayStepped
 pub mod ReplayRun

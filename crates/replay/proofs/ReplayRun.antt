@@ -12,7 +12,7 @@ use Rattle.answers.specs.declared.Refusal.TheVariants.{TooShort}
 use Rattle.answers.proofs.WrittenFromFront.{written}
 use Rattle.grammar.specs.Words.{Grammar, layout, reads}
 use Rattle.grammar.specs.Derivation.{Start}
-use Rattle.grammar.specs.Replaying.{derived, replayed, replay}
+use Rattle.grammar.specs.Replaying.{derived, stopped, replayed, replay}
 use Rattle.grammar.proofs.Replay.{replay_exact, replay_stops}
 use Rattle.grammar.proofs.LayoutExact.{layout_exact, in_bounds}
 use Rattle.layout.specs.Read.{ReadsAs}
@@ -45,7 +45,7 @@ start_form ws stack g e = rw ((layout_exact ws g).0 e).1
 first_low : (ws : List ℕ) (g : Grammar) → layout ws ≡ reads g → get_or ws 2 0 < g.N
 first_low ws g e = rw ((layout_exact ws g).0 e).1 ((in_bounds ws e).start_below)
 
-three_words : (ws : List ℕ) (g : Grammar) → layout ws ≡ reads g → 3 ≤ length ws
+pub three_words : (ws : List ℕ) (g : Grammar) → layout ws ≡ reads g → 3 ≤ length ws
 three_words ws g e = rw ((layout_exact ws g).0 e).1 (omega arith)
 
 module _ (l : RuleList) (stack : List Rest) where
@@ -88,7 +88,7 @@ module _ {g : Grammar} {l : RuleList} {stack : List Rest} {o : Open} {before sen
   }
 
   pub held_passed : {o' : Open} {sentence' : List ℕ} → WithinBounds l stack o → ReadsAs l.reading.now g →
-      Passed l.reading.now o sentence o' sentence' → Held g l stack o' before sentence'
+      Passed (words_of l) l.reading.now.nonterminals o sentence o' sentence' → Held g l stack o' before sentence'
   held_passed kept view p =
       let more = tokens kept p in
       let start : o.tokens ≡ 0 + length held.passed = omega (arith, held.count) in
@@ -167,3 +167,8 @@ module _ (l : RuleList) (before : List ℕ) where
         let few : length again.passed ≤ length before = omega (arith, whole.count, ap length same) in
         written_row again.derives again.count (omega (arith, again.count)) (again.holds ∙ stored_over again.passed before few)
     answers_again (Err e) room (refused, stop) = absurd (let z : ◌≡◌ {A = ℕ} 0 1 = cc (whole.derives, stop) in omega arith)
+
+-- a list that comes to a sentence does not stop
+pub never_both : {g : Grammar} {list aside after : List ℕ} {tokens p : ℕ} → Whole g list aside after tokens →
+    replay g list ≡ stopped p → ⊥
+never_both whole e = let d = whole.derives in let z : ◌≡◌ {A = ℕ} 0 1 = cc in omega arith

@@ -16,7 +16,7 @@ use Rattle.layout.proofs.RulesByNumber.{right_whole}
 use Rattle.layout.proofs.WordsRead.{begun_of}
 use Rattle.layout.proofs.RulesInView.{viewed_rule, viewed_left, viewed_right}
 use Rattle.replay.specs.Forms.{side, form_of, waiting_above, behind, past, Passed, Openable, Opened}
-use Rattle.replay.specs.ReplaySteps.{words_of, next_number, NextRule, Named, rest, all_front, WithinBounds, Onward}
+use Rattle.replay.specs.ReplaySteps.{words_of, next_number, NextRule, Named, rest, all_front, WithinBounds, Onward, to_do}
 use Rattle.replay.specs.declared.forms.Open.{Open}
 use Rattle.replay.specs.declared.forms.Rest.{Rest}
 use Rattle.replay.specs.declared.rule_list.RuleList.{RuleList}
@@ -159,7 +159,7 @@ module _ {l : RuleList} {stack : List Rest} {o : Open} (kept : WithinBounds l st
 
 -- tokens passed
 module _ {l : RuleList} {stack : List Rest} {o o' : Open} {sentence sentence' : List ℕ} (kept : WithinBounds l stack o)
-    (passed : Passed l.reading.now o sentence o' sentence') where
+    (passed : Passed (words_of l) l.reading.now.nonterminals o sentence o' sentence') where
   abbrev pub tokens : List ℕ
   tokens = take passed.count (side (words_of l) o.at o.left)
 
@@ -200,6 +200,10 @@ module _ {l : RuleList} {stack : List Rest} {o o' : Open} {sentence sentence' : 
         used = kept.used;
         few_tokens = omega (arith, kept.few_tokens, size);
       })
+
+  -- and no more is to be done than before
+  pub passes_no_more : to_do l stack o' ≤ to_do l stack o
+  passes_no_more = rw passed.is (omega (arith, size))
 
   -- none is in front
   pub passes_low : 0 < o'.left → get_or (words_of l) o'.at 0 < l.reading.now.nonterminals

@@ -5,7 +5,6 @@ use Rattle.std.specs.Prelude.{ℕ, ◌+◌, ◌-◌, ◌≤◌, ◌<◌, ◌≡�
 use Rattle.std.specs.List.{flat_map}
 use Rattle.std.proofs.lemmas.List.Edits.{sets}
 use Rattle.layout.specs.Walk.{count_at}
-use Rattle.layout.specs.declared.reading.Reading.{Reading}
 use Rattle.replay.specs.declared.forms.Open.{Open}
 use Rattle.replay.specs.declared.forms.Rest.{Rest}
 use Rattle.replay.specs.Replay.{most_numbers}
@@ -59,10 +58,10 @@ pub record Passing (ws : List ℕ) (o : Open) : Type 0 where
   pub few : o.tokens + o.left ≤ 4294967295
 
 -- the tokens in front are passed, and stored as far as there is room; none is in front any more
-pub record Passed (v : Reading) (o : Open) (sentence : List ℕ) (o' : Open) (sentence' : List ℕ) : Type 0 where
+pub record Passed (ws : List ℕ) (n : ℕ) (o : Open) (sentence : List ℕ) (o' : Open) (sentence' : List ℕ) : Type 0 where
   pub count : ℕ
   pub is : o' ≡ past o count
-  pub stored : StoredTokens (side v.words.now o.at o.left) v.nonterminals sentence o.tokens count sentence'
+  pub stored : StoredTokens (side ws o.at o.left) n sentence o.tokens count sentence'
 
 -- the next symbol can be opened by the rule at an index
 pub record Openable (ws : List ℕ) (at : ℕ) (stack : List Rest) (o : Open) : Type 0 where

@@ -62,8 +62,11 @@ pub fn run(list: &RuleList, stack: &mut [Rest], sentence: &mut [u16]) -> Result<
         next: 0,
         tokens: 0,
     };
+    // Taken out of the reading once: a compiler that can't tell what is stored from it reads it again at each step.
+    let words = list.reading.words;
+    let nonterminals = list.reading.nonterminals;
     while let Some(more) = step(list, form, stack)? {
-        form = more.pass_tokens(list.reading, sentence);
+        form = more.pass_tokens(words, nonterminals, sentence);
     }
     Ok(form.tokens)
 }

@@ -4,8 +4,6 @@
 ghost use Rattle.std.specs.Prelude.{◌≡◌, ◌+◌, ◌≤◌, ◌<◌, length};
 ghost use Rattle.replay.specs.Forms.{waiting_above, InFront, StoredTokens, Passing, Passed, Openable, Opened};
 
-use layout::reading::Reading;
-
 // What waits of a right side: where the next symbol is, and how many are left.
 #[derive(Clone, Copy, Default)]
 pub struct Rest {
@@ -27,12 +25,16 @@ pub struct Open {
 
 impl Open {
     // Passes the tokens in front; they are stored as far as there is room.
-    pub fn pass_tokens(self, reading: &Reading, sentence: &mut [u16]) -> Open
-        requires { Passing reading.now.words.now self }
-        ensures { Passed reading.now self sentence.old result sentence.new }
+    pub fn pass_tokens(self, words: &[u16], nonterminals: u16, sentence: &mut [u16]) -> Open
+        requires { Passing words.now self }
+        ensures { Passed words.now nonterminals self sentence.old result sentence.new }
     {
-        let side = &reading.words[self.at..self.at + self.left];
-        let count = store_tokens(side, reading.nonterminals, sentence, self.tokens);
+        let side = &words[self.at..self.at + self.left];
+        let count = if self.tokens + self.left <= sentence.len() {
+            store_all(side, nonterminals, sentence, self.tokens)
+        } else {
+            store_tokens(side, nonterminals, sentence, self.tokens)
+        };
         Open {
             at: self.at + count,
             left: self.left - count,
@@ -78,6 +80,21 @@ impl Open {
             ..opened
         }
     }
+}
+
+// Stores the symbols in front that are tokens, from an index of the sentence on, and counts them; there is room for all.
+// Apart from `store_tokens`, which with room for all asks twice what is asked once here: replays that nest took 1.4 times as long.
+fn store_all(symbols: &[u16], nonterminals: u16, sentence: &mut [u16], from: usize) -> usize
+    requires { from + length symbols.now ≤ length sentence.old }
+    ensures { StoredTokens symbols.now nonterminals sentence.old from result sentence.new }
+{
+    for i in 0..symbols.len() {
+        if symbols[i] < nonterminals {
+            return i;
+        }
+        sentence[from + i] = symbols[i];
+    }
+    symbols.len()
 }
 
 // Stores the symbols in front that are tokens, from an index of the sentence on and as far as there is room, and counts them.

@@ -1,26 +1,15 @@
 -- What the check leaves of `replay::forms::store_tokens`; the argument stands in Invariants.antt. Assumes nothing.
-use Rattle.std.proofs.Common.{ℕ, suc, ◌≡◌, ◌+◌, ◌-◌, ◌≤◌, ◌<◌, min, List, [], ◌∷◌, length, get_or, take, drop, set}
-use Rattle.std.proofs.Common.{◌⊎◌, inl, inr, refl, sym, ap, ◌∙◌, arith}
-use Rattle.std.proofs.Math.Seq.{set_out, length-sets, take-add}
-use Rattle.std.proofs.lemmas.List.{take_more, take_rest, length-take-le, length-drop, get_or-drop}
+use Rattle.std.proofs.Common.{ℕ, ◌≡◌, ◌+◌, ◌-◌, ◌≤◌, ◌<◌, min, List, length, get_or, take, drop}
+use Rattle.std.proofs.Common.{◌⊎◌, inl, inr, sym, ap, ◌∙◌, arith}
+use Rattle.std.proofs.Math.Seq.{length-sets, take-add}
+use Rattle.std.proofs.lemmas.List.{take_rest, length-take-le, length-drop, get_or-drop}
 use Rattle.std.proofs.lemmas.List.Edits.{sets}
 use Rattle.std.proofs.lemmas.Bool.{cases_lt}
 use Rattle.std.proofs.lemmas.Grind.{common_steps}
 use Rattle.answers.proofs.Stores.{sets_append}
 use Rattle.replay.specs.Forms.{InFront}
+use Rattle.replay.proofs.TokensStored.{stored_more, sets_out}
 use Rattle.replay.proofs.forms.store_tokens.Goals as goal
-
--- one more is stored
-stored_more : (vs l : List ℕ) (from i : ℕ) → i < length vs →
-    sets l from (take (i + 1) vs) ≡ set (sets l from (take i vs)) (from + i) (get_or vs i 0)
-stored_more vs l from i h =
-    let long : length (take i vs) ≡ i = length-take-le i vs (omega arith) in
-    rw (take_more vs i 0 h, sets_append, long)
-
--- stores past the end change nothing
-sets_out : (vs l : List ℕ) (i : ℕ) → length l ≤ i → sets l i vs ≡ l
-sets_out [] l i h = refl
-sets_out (v ∷ vs) l i h = rw (set_out l i v h) (sets_out vs l (suc i) (omega arith))
 
 -- and those behind so many have no room, or there are none
 stored_all : (vs l : List ℕ) (from a k : ℕ) → a ≤ length vs → (length l ≤ from + a) ⊎ (k ≡ 0) →
