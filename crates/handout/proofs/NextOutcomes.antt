@@ -23,9 +23,10 @@ use Rattle.tables.specs.Promise as tables
 use Rattle.tables.specs.declared.TableAnswer.{TableAnswer}
 use Rattle.tables.specs.declared.TableAnswer.TheVariants as table-answer
 use Rattle.marks.specs.Marks.{FirstUnused}
+use Rattle.handout.specs.Answers.{told}
 use Rattle.handout.specs.Next.{Lent, Marked, Wanted, NextPromise}
 use Rattle.handout.specs.Next.{row_4_7, row_8, row_9, row_finished, row_3, row_10, row_next}
-use Rattle.handout.specs.RowsPassed.{told, UpToEight, words_refused, table_refused, Wants, Short, short_sentence, short_derivation, TreeShort}
+use Rattle.handout.specs.RowsPassed.{UpToEight, words_refused, table_refused, Wants, Short, short_sentence, short_derivation, TreeShort}
 use Rattle.handout.specs.Listing.{grammar_of}
 use Rattle.handout.specs.TreeListing.{total_by, TreeListed, TreeFits}
 use Rattle.handout.specs.declared.NextAnswer.TheVariants.{Finished, Next}
@@ -35,6 +36,13 @@ use Rattle.handout.proofs.Targets.{lowest_found, none_found}
 use Rattle.handout.proofs.OwnTable.{view_of, accepted_of, has_table}
 use Rattle.handout.proofs.SizesByTable.{tree_within}
 use Rattle.handout.proofs.TreeWrites.{the_tree}
+
+-- rows 4 to 7 are not 3
+pub not_3 : (x : GrammarRefusal) → ¬ (number x ≡ 3)
+not_3 (broken_layout p) e = omega arith
+not_3 (no_tree A) e = omega arith
+not_3 (unreached A) e = omega arith
+not_3 (oversize r) e = omega arith
 
 -- without the table: what working one out is refused with, but for 3; and 8 where that, or nothing, refuses it
 module _ {words buffer : List ℕ} where
@@ -67,7 +75,7 @@ module _ {words : Bor (List ℕ)} {table : List ℕ} where
   refuses_untabled (not_its n) (table_refused (g, read, ok)) = row_8 read ok (λ has. n (g, read, (ok, has)))
 
 -- what is written from the front on, where there is room
-at_front : (us buffer : List ℕ) → length us ≤ length buffer → sets buffer 0 us ≡ over us buffer
+pub at_front : (us buffer : List ℕ) → length us ≤ length buffer → sets buffer 0 us ≡ over us buffer
 unfolding over
 at_front us buffer h = sets-eq us buffer 0 (omega arith) ∙ rw (zero-add (length us))
 

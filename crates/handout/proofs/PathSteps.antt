@@ -35,13 +35,16 @@ module _ (t : Tabled) where
     pub fallen : steps + lower t.table.now t.reading.now.nonterminals (context_in t.table.now a) ≤
         lower t.table.now t.reading.now.nonterminals (context_in t.table.now A)
 
+  -- there are no more of them than a path of 128 has room for
+  pub path_holds : t.reading.now.nonterminals ≤ 128
+  path_holds = (view_few (view_of t)).0
+
   pub way_begins : (A : ℕ) (path : List ℕ) → A < t.reading.now.nonterminals → OnWay A path A 0
   way_begins A path h = record { leads = arrived; nonterminal = h; fallen = omega arith }
 
   module _ {A : ℕ} {path : List ℕ} {a steps : ℕ} (below : A < t.reading.now.nonterminals) (way : OnWay A path a steps) where
-    pub few_steps : steps < 128
-    few_steps =
-        omega (arith, way.fallen, lower_within t.table.now t.reading.now.nonterminals A below, (view_few (view_of t)).0)
+    pub few_steps : steps < t.reading.now.nonterminals
+    few_steps = omega (arith, way.fallen, lower_within t.table.now t.reading.now.nonterminals A below)
 
     -- one step up
     module _ (d : ¬ (a ≡ t.reading.now.start)) where

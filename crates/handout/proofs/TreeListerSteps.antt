@@ -77,7 +77,7 @@ module _ (t : Tabled) where
   up : {A : ℕ} (x : Open g A) → ChosenOpen measure g x → ¬ (A ≡ t.reading.now.start) → Up x
   up x h d = up_to x h (λ e. d (e ∙ sym (start_of t))) _ _ _ refl refl refl
 
-  open_nonterminal : {A : ℕ} → Open g A → A < g.N
+  pub open_nonterminal : {A : ℕ} → Open g A → A < g.N
   open_nonterminal root = (in_bounds t.reading.now.words.now (view_of t).is).start_below
   open_nonterminal (down k r x a) = gap_nonterminal a
 

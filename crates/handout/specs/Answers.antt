@@ -3,6 +3,8 @@
 -- Assumes nothing.
 use Rattle.std.specs.Prelude.{ℕ}
 use Rattle.answers.specs.GrammarRefusals.{GrammarRefusal, number, place}
+use Rattle.answers.specs.Refusals.{number_of, place_of}
+use Rattle.answers.specs.declared.Refusal.{Refusal}
 use Rattle.handout.specs.declared.NextAnswer.{NextAnswer}
 use Rattle.handout.specs.declared.NextAnswer.TheVariants.{Next, Finished, Refused}
 
@@ -31,3 +33,7 @@ answer not_its_table = Refused 8 0
 answer (few_marks rules) = Refused 9 rules
 answer (too_short needed) = Refused 3 needed
 answer (derivation_short needed) = Refused 10 needed
+
+-- the answer that tells what was refused
+abbrev pub told : Refusal → NextAnswer
+told x = Refused (number_of x) (place_of x)

@@ -2,14 +2,13 @@
 --   "A tree is listed from the left: a symbol's listing is its rule's listing (a terminal's is itself); a rule's listing is its
 --    number, then its symbols' listings in order. The terminals in that order are the sentence, the rule numbers the derivation."
 -- Nobody has to believe this file; the promises do not cite it. Assumes nothing.
-use Rattle.std.specs.Prelude.{ℕ, ◌+◌, ◌≤◌, ◌≡◌, List, [], ◌∷◌, ltb, length, get_or}
+use Rattle.std.specs.Prelude.{ℕ, ◌+◌, ◌≤◌, ◌≡◌, List, [], ◌∷◌, ltb, length}
 use Rattle.std.proofs.lemmas.List.Edits.{sets}
 use Rattle.grammar.specs.Words.{Grammar}
 use Rattle.grammar.specs.Tree.{Tree, Forest, sentence, sentences, derivation, derivations}
 use Rattle.grammar.specs.Terms.{measure, limit}
 use Rattle.grammar.specs.Least.{ChosenTree, ChosenForest}
 use Rattle.grammar.specs.Certificates.{either}
-use Rattle.layout.specs.Rules.{right_at}
 use Rattle.layout.proofs.WordsRead.{begun_of}
 use Rattle.entries.specs.Table.{least_in}
 use Rattle.layout.specs.Sides as sides

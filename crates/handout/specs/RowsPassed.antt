@@ -11,16 +11,12 @@ use Rattle.grammar.specs.Rows.{GrammarRefused}
 use Rattle.grammar.specs.Terms.{measure, limit}
 use Rattle.grammar.specs.Tree.{Tree, sentence, derivation}
 use Rattle.grammar.specs.Least.{TreeOf}
+use Rattle.handout.specs.Answers.{told}
 use Rattle.handout.specs.Next.{Unused, Lent, NextPromise}
 use Rattle.handout.specs.Listing.{grammar_of}
 use Rattle.handout.specs.TreeListing.{TreeFits}
-use Rattle.handout.specs.declared.NextAnswer.{NextAnswer}
-use Rattle.handout.specs.declared.NextAnswer.TheVariants.{Refused, Finished}
+use Rattle.handout.specs.declared.NextAnswer.TheVariants.{Finished}
 use Rattle.handout.specs.declared.tabled.Tabled.{Tabled}
-
--- how a refusal is told
-abbrev pub told : Refusal → NextAnswer
-told x = Refused (number_of x) (place_of x)
 
 -- the table is none of a grammar's own: the words are refused, by 4, 5, 6 or 7, or else the table is, by 8
 pub data UpToEight (words : List ℕ) : Refusal → Type 0 where

@@ -2,7 +2,7 @@
 -- write. Document 01: "The tree of rule r follows the context choices from the start to r's left side, puts r there, and opens
 -- every other nonterminal by its chosen rule."
 -- Nobody has to believe this file; the promises do not cite it. Assumes nothing.
-use Rattle.std.specs.Prelude.{ℕ, suc, ◌+◌, ◌≤◌, ◌<◌, ◌≡◌, List, [], ◌∷◌, ◌++◌, length, get_or, take, drop}
+use Rattle.std.specs.Prelude.{ℕ, suc, ◌+◌, ◌≤◌, ◌<◌, ◌≡◌, List, [], ◌∷◌, ◌++◌, length, take, drop}
 use Rattle.grammar.specs.Words.{Grammar}
 use Rattle.grammar.specs.Tree.{Tree, Gap, here, past_leaf, past_child, Open, root, down}
 use Rattle.grammar.specs.Tree.{sentence, sentences, derivation, derivations}

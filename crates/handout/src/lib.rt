@@ -31,7 +31,7 @@ pub enum NextAnswer {
 
 impl From<Refusal> for NextAnswer {
     ghost use Rattle.std.specs.Prelude.{◌≡◌};
-    ghost use Rattle.handout.specs.RowsPassed.{told};
+    ghost use Rattle.handout.specs.Answers.{told};
 
     ghost from_gives = { λ refusal answer. answer ≡ told refusal };
 

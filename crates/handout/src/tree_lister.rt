@@ -18,7 +18,7 @@ const MOST_NONTERMINALS: usize = 128;
 #[tactic(auto, using(crate::proofs::PathSteps::way_begins, crate::proofs::PathSteps::way_on, crate::proofs::PathSteps::way_falls, crate::proofs::PathSteps::few_steps))]
 fn climb(tabled: &Tabled, from: u16, path: &mut [u16]) -> usize
     requires nonterminal { from < tabled.now.reading.now.nonterminals }
-    requires room { MOST_NONTERMINALS ≤ length path.old }
+    requires room { tabled.now.reading.now.nonterminals ≤ length path.old }
     ensures short { result ≤ length path.new }
     ensures leads { Leads tabled.now from tabled.now.reading.now.start (take result path.new) }
 {

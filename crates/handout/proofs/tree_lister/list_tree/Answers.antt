@@ -1,7 +1,11 @@
 -- `handout::tree_lister::list_tree` meets its contract: the path leads up from the target's left side; what lies before it, the
 -- target, what lies after. Assumes nothing.
+use Rattle.handout.proofs.PathSteps.{path_holds}
 use Rattle.handout.proofs.TreeWrites.{tree_listed}
 use Rattle.handout.proofs.tree_lister.list_tree.Goals as goal
+
+pub climb-steps-requires-clause-room : goal.climb-steps-requires-clause-room
+climb-steps-requires-clause-room c = path_holds c.args.tabled.now
 
 pub returns-clause-listed : goal.returns-clause-listed
 returns-clause-listed c =
