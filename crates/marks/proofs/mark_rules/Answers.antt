@@ -1,4 +1,5 @@
 -- What the check leaves of `marks::mark_rules`; the argument stands in Invariants.antt. Assumes nothing.
+use Rattle.std.proofs.Common.{◌≡◌, arith}
 use Rattle.std.proofs.lemmas.Iterator.{YieldsList-from_slice, YieldsList-from_take}
 use Rattle.std.proofs.lemmas.Iterator.Consumers.{YieldsList-end}
 use Rattle.std.proofs.lemmas.List.{map-append}
@@ -12,6 +13,7 @@ loop-rule-preserved c =
 
 pub returns : goal.returns
 returns c =
-    let all = YieldsList-from_take c.args.count (YieldsList-from_slice c.args.derivation.now cc) cc in
+    let number : c.take-rule-items.result.n ≡ c.args.count = omega (arith, c.take-rule-items.ensures.count) in
+    let all = YieldsList-from_take c.args.count (YieldsList-from_slice c.args.derivation.now cc) (cc number) in
     let passed = YieldsList-end all c.loop-rule.yielded _ c.loop-rule.yielded_by _ _ c.in-None.is c.next.ensures.steps in
     rw passed.0 at c.loop-rule.invariant
