@@ -9,7 +9,7 @@ use cells::read;
 
 // The words; where the rules stand: the index of each rule's left side, by number, and 0 past the rules; and N, T, the start and
 // the number of rules. The places are an array of 256 beside their number, since nothing is allocated.
-#[derive(Drop)]
+#[derive(Clone, Copy)]
 pub struct Reading<'a> {
     pub words: &'a [u16],
     pub places: [u16; 256],
