@@ -36,7 +36,7 @@ module _ {g : Grammar} {A : ℕ} where
 
 module _ (words : Bor (List ℕ)) {g : Grammar} (e : layout words.now ≡ reads g) where
   -- the words are no other grammar, and nowhere broken
-  figures_of_lem : {found : FoundLeasts} → LeastsOf words (Ok found) → FiguresOf g found.leasts found.sizes
+  pub figures_of_lem : {found : FoundLeasts} → LeastsOf words (Ok found) → FiguresOf g found.leasts found.sizes
   figures_of_lem p = let (h, is, figures) = p.figures in let same : h ≡ g = cc in rw same at figures
 
   no_fault : {p : ℕ} → ¬ (layout words.now ≡ faults p)

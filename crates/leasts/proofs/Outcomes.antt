@@ -26,7 +26,7 @@ filled_at n d i = go (dec_lt i n)
     go (yes h) = get_or-replicate n i d d h
     go (no h) = get_or-eq_default (replicate n d) d {n = i} (omega (arith, length-replicate {A = ℕ} n d))
 
-none_sound : (g : Grammar) → LeastsSound g no_leasts
+pub none_sound : (g : Grammar) → LeastsSound g no_leasts
 none_sound g A has = absurd (has (filled_at 128 no_figure A))
 
 rested_figures : {g : Grammar} {leasts sizes : List ℕ} → length leasts ≡ 128 → length sizes ≡ 256 → Rested g leasts no_sizes sizes →

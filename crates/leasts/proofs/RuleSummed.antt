@@ -51,7 +51,7 @@ module _ (rule : Rule) (vs : List ℕ) where
     abbrev s : ℕ
     s = get_or w i 0
 
-    summed_more : {sum : ℕ} (x : ℕ) → (s < n → Has vs s) → ((g : Grammar) → n ≡ g.N → symbol_size measure g (figure vs) s ≡ x) →
+    pub summed_more : {sum : ℕ} (x : ℕ) → (s < n → Has vs s) → ((g : Grammar) → n ≡ g.N → symbol_size measure g (figure vs) s ≡ x) →
         x ≤ 65535 → Summed rule vs i sum → Summed rule vs (i + 1) (sum + x)
     unfolding word_size
     summed_more {sum} x has size small so_far = record {

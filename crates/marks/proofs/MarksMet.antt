@@ -1,6 +1,6 @@
 -- The promises of this crate can be met, by the steps that its code takes: used rules are passed, and rules marked one after
 -- another are marked together. Assumes nothing.
-use Prim.Native.Nat.{ℕ, zero, suc, ◌+◌, ◌<◌}
+use Prim.Native.Nat.{ℕ, zero, suc, ◌+◌, ◌≤◌, ◌<◌}
 use native.Mathlib.Omega.{arith}
 use native.Mathlib.Decide.{dec_lt, ℕ_discrete}
 use native.Mathlib.Numerals.{add-one}
@@ -9,8 +9,8 @@ use mathlib.Core.Path.{◌≡◌, refl, sym, ◌∙◌}
 use mathlib.Core.Logic.{◌⊎◌, inl, inr}
 use mathlib.Core.List.Memᴰ
 use mathlib.Core.List.{List, [], ◌∷◌, ◌++◌, Memᴰ}
-use lib.ListN.{length, get_or, set, length-set}
-use lib.Seq.{get_or-set_same, get_or-set_other}
+use lib.ListN.{length, get_or, set, length-set, take}
+use lib.Seq.{get_or-set_same, get_or-set_other, take-suc, take_all}
 use Rattle.std.specs.Prelude.{Option, Some, None}
 use Rattle.marks.specs.Marks.{FirstUnused, at, none_unused, Marked}
 use Rattle.marks.proofs.MarksSettle.{ToSet, set?}
@@ -87,6 +87,16 @@ marked_then {ks} {js} {before} {between} {after} h j = record {
     is_kept : (i : ℕ) → i < length before → ¬ ToSet (ks ++ js) before i → get_or between i 0 ≡ get_or before i 0 →
         get_or after i 0 ≡ get_or before i 0
     is_kept i b n e = j.keeps i (later i b) (λ p. n (Memᴰ.append_right ks p.0, sym e ∙ p.1)) ∙ e
+
+-- of the first i numbers of a list and then of the one at i
+pub marked_next : (ks : List ℕ) (i : ℕ) {before between after : List ℕ} → i < length ks →
+    Marked (take i ks) before between → Marked (get_or ks i 0 ∷ []) between after → Marked (take (i + 1) ks) before after
+marked_next ks i b h j = rw (add-one, take-suc ks i 0) (marked_then h j)
+
+-- of all of them: there are no more
+pub marked_all : (ks : List ℕ) (i count : ℕ) {before after : List ℕ} → length ks ≤ i → i ≤ count → Marked (take i ks) before after →
+    Marked (take count ks) before after
+marked_all ks i count l le h = rw (take_all count ks (omega arith), ← take_all i ks l) h
 
 pub marks_met : (ks before : List ℕ) → (after : List ℕ) × Marked ks before after
 marks_met [] before = (before, marked_none before)

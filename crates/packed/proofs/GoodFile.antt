@@ -8,10 +8,10 @@ use Prim.Native.Nat.{ℕ, suc, ◌+◌, ◌*◌, ◌-◌, ◌/◌, ◌%◌, ◌�
 use native.Mathlib.Nat.{div-add-mod'}
 use native.Mathlib.Omega.{arith}
 use lib.Arith.{digits_div, digits_mod}
-use lib.ListN.{length}
+use lib.ListN.{length, get_or, length-drop, get_or-eq_default}
 use Rattle.packed.specs.File.{octets_of, file_of, said, words_in, Octets, GoodFile}
 use Rattle.packed.specs.Promise.{NotVersionOne, BadLength}
-use Rattle.packed.specs.Promise.NotVersionOne.{first_not_one}
+use Rattle.packed.specs.Promise.NotVersionOne.{empty, first_not_one}
 use Rattle.packed.specs.Promise.BadLength.{under_three, odd, above, not_following}
 use Rattle.packed.proofs.WordsAndOctets.{length-octets_of, length-file_of, length_words_in}
 use Rattle.packed.proofs.WordsAndOctets.{words_in_file_of, octets_back}
@@ -20,6 +20,16 @@ module _ (file : List ℕ) where
   -- what the tests of code find of a header's length
   pub counted : 3 ≤ length file → said file % 2 ≡ 0 → said file ≡ length file - 3 → length (words_in file) ≡ said file / 2
   counted three even follow = length_words_in file (said file / 2) (omega arith)
+
+  pub is_version_one : get_or file 0 0 ≡ 1 → ¬ NotVersionOne file
+  is_version_one v (empty e) = omega (arith, get_or-eq_default file 0 {n = 0} (omega arith))
+  is_version_one v (first_not_one h) = h v
+
+  pub is_good_length : 3 ≤ length file → said file % 2 ≡ 0 → said file ≤ 17414 → said file ≡ length file - 3 → ¬ BadLength file
+  is_good_length three even most follow (under_three h) = omega arith
+  is_good_length three even most follow (odd h) = omega arith
+  is_good_length three even most follow (above h) = omega arith
+  is_good_length three even most follow (not_following h) = h (follow ∙ omega (arith, length-drop 3 file))
 
   pub passes : GoodFile file → ¬ NotVersionOne file × ¬ BadLength file
   passes g = grind (arith, common_steps)

@@ -26,7 +26,7 @@ unpack_file_of ws room g h =
     grind (arith, all_words)
 
 -- the words of a good file are packed to it
-pack_words_in : (file room : List ℕ) → Octets file → GoodFile file → length file ≤ length room →
+pub pack_words_in : (file room : List ℕ) → Octets file → GoodFile file → length file ≤ length room →
     Packed (words_in file) room (Done (length file)) (over file room)
 pack_words_in file room b g h = let back = file_back file b g in grind (arith, whole-file)
 

@@ -2,6 +2,7 @@
 -- other. Assumes nothing.
 use Rattle.std.proofs.Common.{◌≡◌, ℕ, zero, suc, ◌+◌, ◌*◌, ◌/◌, ◌%◌, ◌<◌, List, [], ◌∷◌, length, get_or, take, drop}
 use Rattle.std.proofs.Common.{length-drop, add-one, refl, sym, ap, ◌∙◌, arith}
+use Rattle.std.proofs.Common.{le_of_suc-le-suc, not-suc-le-zero, add_assoc, get_or-append-add, get_or-drop}
 use Rattle.std.proofs.lemmas.Grind.{common_steps, same_number_lists}
 use native.Mathlib.Nat.{div-add-mod'}
 use lib.Arith.{digits_div, digits_mod}
@@ -61,6 +62,35 @@ octets_of_each (w ∷ words) (x ∷ y ∷ octets) e h =
     octets_of_each words octets (omega arith)
     (λ k low. rw add-one (rw (add-one, twice_suc) at (h (suc k) (omega arith)))) in
     rw (← first.0, ← first.1, ← rest)
+
+-- The octets of word i, those of a file past its header, and word i of a file of n words.
+octets_of_high : (ws : List ℕ) (i : ℕ) → i < length ws → get_or (octets_of ws) (2 * i) 0 ≡ get_or ws i 0 / 256
+unfolding octets_of
+octets_of_high [] i h = absurd (not-suc-le-zero h)
+octets_of_high (w ∷ ws) zero h = refl
+octets_of_high (w ∷ ws) (suc i) h = rw twice_suc (octets_of_high ws i (le_of_suc-le-suc h))
+
+octets_of_low : (ws : List ℕ) (i : ℕ) → i < length ws → get_or (octets_of ws) (2 * i + 1) 0 ≡ get_or ws i 0 % 256
+unfolding octets_of
+octets_of_low [] i h = absurd (not-suc-le-zero h)
+octets_of_low (w ∷ ws) zero h = refl
+octets_of_low (w ∷ ws) (suc i) h = rw (add-one, twice_suc) (rw add-one at (octets_of_low ws i (le_of_suc-le-suc h)))
+
+file_of_at : (ws : List ℕ) (k : ℕ) → get_or (file_of ws) (3 + k) 0 ≡ get_or (octets_of ws) k 0
+unfolding file_of octets_of
+file_of_at ws k = get_or-append-add (1 ∷ length (octets_of ws) / 256 ∷ length (octets_of ws) % 256 ∷ []) (octets_of ws) k 0
+
+pub words_in_at : (file : List ℕ) (n i : ℕ) → length file ≡ 3 + 2 * n → i < n →
+    get_or (words_in file) i 0 ≡ word_of (get_or file (3 + 2 * i) 0) (get_or file (3 + 2 * i + 1) 0)
+words_in_at file n i e h =
+    words_of_at (following file) i (omega (arith, length-drop 3 file))
+    ∙ rw (get_or-drop 3 file (2 * i) 0, get_or-drop 3 file (2 * i + 1) 0, ← add_assoc 3 (2 * i) 1)
+
+pub file_of_high : (ws : List ℕ) (i : ℕ) → i < length ws → get_or (file_of ws) (3 + 2 * i) 0 ≡ get_or ws i 0 / 256
+file_of_high ws i h = file_of_at ws (2 * i) ∙ octets_of_high ws i h
+
+pub file_of_low : (ws : List ℕ) (i : ℕ) → i < length ws → get_or (file_of ws) (3 + 2 * i + 1) 0 ≡ get_or ws i 0 % 256
+file_of_low ws i h = rw (add_assoc 3 (2 * i) 1) (file_of_at ws (2 * i + 1) ∙ octets_of_low ws i h)
 
 -- PARTS
 pub words_of_take : (octets : List ℕ) (n : ℕ) → words_of (take (2 * n) octets) ≡ take n (words_of octets)

@@ -6,6 +6,7 @@ pub mod TablesSettles
 pub mod TablesExact
 pub mod DeadGrammars
 -- The rounds.
+pub mod FiguresHaveRoom
 pub mod ContextsFall
 pub mod ContextRounds
 pub mod SeenRounds

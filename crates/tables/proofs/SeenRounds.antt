@@ -25,7 +25,7 @@ use Rattle.tables.specs.ContextSteps.{KnownOf, SeenTurn, SeenRound}
 use Rattle.tables.specs.declared.contexts.Contexts.{Contexts}
 
 -- where the start alone has a context, which is 0, the contexts are sound
-contexts_begin : (g : Grammar) → InBounds g → ContextsSound g (set (replicate 128 no_figure) g.start 0)
+pub contexts_begin : (g : Grammar) → InBounds g → ContextsSound g (set (replicate 128 no_figure) g.start 0)
 contexts_begin g ok = record { start = at_start; of_open = λ A lt has. go A lt has (ℕ_discrete A g.start) }
   where
     at_start : figure (set (replicate 128 no_figure) g.start 0) g.start ≡ 0
