@@ -30,10 +30,10 @@ impl Open {
         ensures { Passed words.now nonterminals self sentence.old result sentence.new }
     {
         let side = &words[self.at..self.at + self.left];
-        let count = if self.tokens + self.left <= sentence.len() {
-            store_all(side, nonterminals, sentence, self.tokens)
-        } else {
+        let count = if sentence.len() < self.tokens + self.left {
             store_tokens(side, nonterminals, sentence, self.tokens)
+        } else {
+            store_all(side, nonterminals, sentence, self.tokens)
         };
         Open {
             at: self.at + count,
