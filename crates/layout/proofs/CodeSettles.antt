@@ -5,16 +5,20 @@ use Prim.Native.Nat.{ℕ}
 use lib.ListN.{get_or}
 use denote.Ref.{Bor}
 use Rattle.grammar.specs.Words.{layout}
-use Rattle.layout.specs.Judge.{answer_of}
+use Rattle.layout.specs.Judge.{answer_of, placed_of}
 use Rattle.layout.specs.Walk.{WalkPlace, Taken, walk_start, step_at, walk_at, taken_from}
 use Rattle.std.specs.Prelude.{Option, Result}
 use Rattle.layout.specs.declared.judge.Shape.{Shape}
+use Rattle.layout.specs.declared.judge.Placed.{Placed}
 use Rattle.layout.specs.declared.judge.Fault.{Fault}
 use Rattle.layout.specs.declared.walk.RuleSpan.{RuleSpan}
 use Rattle.layout.specs.declared.walk.RuleWalk.{RuleWalk}
 
 pub judge_settles : (ws : List ℕ) {r s : Result Shape Fault} → r ≡ answer_of (layout ws) → s ≡ answer_of (layout ws) → r ≡ s
 judge_settles ws p q = p ∙ sym q
+
+pub read_settles : (ws : List ℕ) {r s : Result Placed Fault} → r ≡ placed_of (layout ws) → s ≡ placed_of (layout ws) → r ≡ s
+read_settles ws p q = p ∙ sym q
 
 pub walk_start_settles : (words : Bor (List ℕ)) {r s : RuleWalk} → r ≡ walk_at words walk_start → s ≡ walk_at words walk_start → r ≡ s
 walk_start_settles words p q = p ∙ sym q

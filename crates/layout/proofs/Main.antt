@@ -8,12 +8,13 @@ use lib.ListN.{get_or}
 use denote.Ref.{Bor}
 use Rattle.std.specs.Prelude.{Option, Result, Ok, Err}
 use Rattle.grammar.specs.Words.{Grammar, RuleAt, place_of, layout, reads, FaultAt}
-use Rattle.layout.specs.Judge.{shape, fault, answer_of, places_of, WordsOf}
+use Rattle.layout.specs.Judge.{shape, fault, answer_of, places_of, placed_of, WordsOf}
 use Rattle.layout.specs.Walk.{WalkPlace, Taken, walk_start, step_at, walk_at, taken_from}
 use Rattle.layout.specs.WalkOrder.{HandsOut, NextHandsOut}
 use Rattle.layout.specs.Rules.{right_at}
-use Rattle.layout.specs.Read.{ReadOf}
+use Rattle.layout.specs.Read.{ReadOf, placed_in}
 use Rattle.layout.specs.declared.judge.Shape.{Shape}
+use Rattle.layout.specs.declared.judge.Placed.{Placed}
 use Rattle.layout.specs.declared.judge.Fault.{Fault}
 use Rattle.layout.specs.declared.reading.Reading.{Reading}
 use Rattle.layout.specs.declared.walk.RuleSpan.{RuleSpan}
@@ -41,23 +42,29 @@ walk_step_settles = CodeSettles.walk_step_settles
 pub walk_next_settles : (w : RuleWalk) {r s : Taken} → r ≡ taken_from w → s ≡ taken_from w → r ≡ s
 walk_next_settles = CodeSettles.walk_next_settles
 
-pub read_settles : (words : Bor (List ℕ)) {r s : Result Reading Fault} → ReadOf words r → ReadOf words s → r ≡ s
-read_settles = ReadingsSame.read_settles
-
--- A reading of words says what the judge answers of them, and where the rules stand.
-pub read_answers : (words : Bor (List ℕ)) (v : Reading) → ReadOf words (Ok v) →
-    (Ok (shape v.nonterminals v.terminals v.start v.rules) ≡ answer_of (layout words.now)) × (v.places ≡ places_of (layout words.now))
-read_answers = ReadingsSame.read_answers
-
--- That of `read` allows an outcome for any words.
-pub read_met : (words : Bor (List ℕ)) → (r : Result Reading Fault) × ReadOf words r
-read_met = ReadingMade.read_met
+pub read_settles : (ws : List ℕ) {r s : Result Placed Fault} → r ≡ placed_of (layout ws) → s ≡ placed_of (layout ws) → r ≡ s
+read_settles = CodeSettles.read_settles
 
 pub index_settles : (places : List ℕ) (k : ℕ) {r s : ℕ} → r ≡ get_or places k 0 → s ≡ get_or places k 0 → r ≡ s
 index_settles = CodeSettles.index_settles
 
 pub right_settles : (ws : List ℕ) (at : ℕ) {r s : List ℕ} → r ≡ right_at ws at → s ≡ right_at ws at → r ≡ s
 right_settles = RulesByNumber.right_settles
+
+-- That of `Reading::of` settles the reading, and allows an outcome for any words.
+pub reading_settles : (words : Bor (List ℕ)) {r s : Result Reading Fault} → ReadOf words r → ReadOf words s → r ≡ s
+reading_settles = ReadingsSame.reading_settles
+
+pub reading_met : (words : Bor (List ℕ)) → (r : Result Reading Fault) × ReadOf words r
+reading_met = ReadingMade.reading_met
+
+-- A reading of words says what the judge answers of them, and where the rules stand; so without its words it is what `read` answers.
+pub reading_answers : (words : Bor (List ℕ)) (v : Reading) → ReadOf words (Ok v) →
+    (Ok (shape v.nonterminals v.terminals v.start v.rules) ≡ answer_of (layout words.now)) × (v.places ≡ places_of (layout words.now))
+reading_answers = ReadingsSame.reading_answers
+
+pub reading_placed : (words : Bor (List ℕ)) (v : Reading) → ReadOf words (Ok v) → Ok (placed_in v) ≡ placed_of (layout words.now)
+reading_placed = ReadingsSame.reading_placed
 
 -- The judge answers Err exactly at the first offending word or the early end, and Ok exactly of a grammar's words.
 pub judge_fault_exact : (ws : List ℕ) {r : Result Shape Fault} → r ≡ answer_of (layout ws) → (p : ℕ) → (r ≡ Err (fault p)) ↔ FaultAt ws p

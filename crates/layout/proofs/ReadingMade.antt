@@ -1,5 +1,5 @@
--- There is a reading of any words that are a grammar's: the grammar gives its fields. So the promise of `read` can be met for any
--- words. Assumes nothing.
+-- There is a reading of any words that are a grammar's: the grammar gives its fields. So the promise of `Reading::of` can be met for
+-- any words. Assumes nothing.
 use Prim.Native.Nat.{ℕ}
 use mathlib.Core.Path.{◌≡◌, refl, ap}
 use mathlib.Core.List.{List}
@@ -23,8 +23,8 @@ reading_of words g is = record {
   stand = refl;
 }
 
-pub read_met : (words : Bor (List ℕ)) → (r : Result Reading Fault) × ReadOf words r
-read_met words = go (layout words.now) refl
+pub reading_met : (words : Bor (List ℕ)) → (r : Result Reading Fault) × ReadOf words r
+reading_met words = go (layout words.now) refl
   where
     go : (j : Judged Grammar) → layout words.now ≡ j → (r : Result Reading Fault) × ReadOf words r
     go (reads g) is = (Ok (reading_of words g is), refl)

@@ -8,8 +8,8 @@ use denote.Ref.{Bor}
 use Rattle.std.specs.Prelude.{Result, Ok, Err}
 use Rattle.std.proofs.Props.{props}
 use Rattle.grammar.specs.Words.{Grammar, Judged, reads, faults, layout}
-use Rattle.layout.specs.Judge.{shape, fault, answer_of, numbers_of, places_of}
-use Rattle.layout.specs.Read.{ReadOf}
+use Rattle.layout.specs.Judge.{shape, fault, answer_of, numbers_of, places_of, placed_of}
+use Rattle.layout.specs.Read.{ReadOf, placed_in}
 use Rattle.layout.specs.declared.judge.Fault.{Fault}
 use Rattle.layout.specs.declared.reading.Reading.{Reading}
 
@@ -54,22 +54,33 @@ same_reading v w p = λ i. record {
 no_fault : (v : Reading) (p : ℕ) → ¬ (layout v.words.now ≡ faults p)
 no_fault v p e = absurd (let z : ◌≡◌ {A = List ℕ} [] (v.nonterminals ∷ v.terminals ∷ v.start ∷ v.rules ∷ []) = sym (ap numbers_of e) ∙ v.numbers in cc)
 
-pub read_settles : (words : Bor (List ℕ)) {r s : Result Reading Fault} → ReadOf words r → ReadOf words s → r ≡ s
-read_settles words {r = Ok v} {s = Ok w} p q = ap Ok (same_reading v w (p ∙ sym q))
-read_settles words {r = Ok v} {s = Err f} p q = absurd (no_fault v f.place (rw p q))
-read_settles words {r = Err e} {s = Ok w} p q = absurd (no_fault w e.place (rw q p))
-read_settles words {r = Err e} {s = Err f} p q = ap (λ (j : Judged Grammar). Err (fault (place_of_fault j))) (sym p ∙ q)
+pub reading_settles : (words : Bor (List ℕ)) {r s : Result Reading Fault} → ReadOf words r → ReadOf words s → r ≡ s
+reading_settles words {r = Ok v} {s = Ok w} p q = ap Ok (same_reading v w (p ∙ sym q))
+reading_settles words {r = Ok v} {s = Err f} p q = absurd (no_fault v f.place (rw p q))
+reading_settles words {r = Err e} {s = Ok w} p q = absurd (no_fault w e.place (rw q p))
+reading_settles words {r = Err e} {s = Err f} p q = ap (λ (j : Judged Grammar). Err (fault (place_of_fault j))) (sym p ∙ q)
   where
     place_of_fault : Judged Grammar → ℕ
     place_of_fault (reads g) = 0
     place_of_fault (faults p) = p
 
 -- what a reading of words says: the judge's answer, and where the rules stand
-pub read_answers : (words : Bor (List ℕ)) (v : Reading) → ReadOf words (Ok v) →
+pub reading_answers : (words : Bor (List ℕ)) (v : Reading) → ReadOf words (Ok v) →
     (Ok (shape v.nonterminals v.terminals v.start v.rules) ≡ answer_of (layout words.now)) × (v.places ≡ places_of (layout words.now))
-read_answers words v same = rw (← same) (go (layout v.words.now) v.numbers, v.stand)
+reading_answers words v same = rw (← same) (go (layout v.words.now) v.numbers, v.stand)
   where
     go : (j : Judged Grammar) → numbers_of j ≡ v.nonterminals ∷ v.terminals ∷ v.start ∷ v.rules ∷ [] →
         Ok (shape v.nonterminals v.terminals v.start v.rules) ≡ answer_of j
     go (reads g) e = cc e
     go (faults p) e = absurd (let z : ◌≡◌ {A = List ℕ} [] (v.nonterminals ∷ v.terminals ∷ v.start ∷ v.rules ∷ []) = e in cc)
+
+-- so without its words it is what `read` answers of them
+pub reading_placed : (words : Bor (List ℕ)) (v : Reading) → ReadOf words (Ok v) → Ok (placed_in v) ≡ placed_of (layout words.now)
+reading_placed words v same =
+    let (shapes, places) = reading_answers words v same in
+    go (layout words.now) shapes places
+  where
+    go : (j : Judged Grammar) → Ok (shape v.nonterminals v.terminals v.start v.rules) ≡ answer_of j → v.places ≡ places_of j →
+        Ok (placed_in v) ≡ placed_of j
+    go (reads g) e places = cc (e, places)
+    go (faults p) e places = cc e

@@ -6,6 +6,7 @@ use Rattle.answers.specs.Buffers.{over}
 use Rattle.answers.specs.Lists.{tabulate}
 use Rattle.grammar.specs.Words.{Grammar, R, InBounds, words, place_of, Judged, reads, faults}
 use Rattle.layout.specs.declared.judge.Shape.{Shape}
+use Rattle.layout.specs.declared.judge.Placed.{Placed}
 use Rattle.layout.specs.declared.judge.Fault.{Fault}
 
 abbrev pub shape : ℕ → ℕ → ℕ → ℕ → Shape
@@ -31,6 +32,15 @@ no_places = replicate 256 0
 abbrev pub places_of : Judged Grammar → List ℕ
 places_of (reads g) = over (tabulate (place_of g) (R g)) no_places
 places_of (faults p) = no_places
+
+-- a grammar's numbers, and where its rules stand
+abbrev pub placed : Grammar → Placed
+placed g = record { shape = shape g.N g.T g.start (R g); places = places_of (reads g) }
+
+-- what `read` answers
+abbrev pub placed_of : Judged Grammar → Result Placed Fault
+placed_of (reads g) = Ok (placed g)
+placed_of (faults p) = Err (fault p)
 
 -- the words are those of a grammar within bounds that has these numbers
 pub record WordsOf (ws : List ℕ) (N T S n : ℕ) : Type 0 where

@@ -1,6 +1,8 @@
 // The head of grammar words, N, T and the start, and what is judged by it: the rules, their symbols, and where they break.
-ghost use Rattle.std.specs.Prelude.{◌≤◌, ◌<◌, length, IfOk};
-ghost use Rattle.layout.specs.JudgeParts.{FirstUnfit};
+ghost use Rattle.std.specs.Prelude.{◌≡◌, ◌≤◌, ◌<◌, length, IfOk, OnOk};
+ghost use Rattle.grammar.specs.Words.{layout};
+ghost use Rattle.layout.specs.Judge.{answer_of, no_places, places_of};
+ghost use Rattle.layout.specs.JudgeParts.{FirstUnfit, shaped};
 
 use crate::judge::Fault;
 use crate::walk::{FIRST_RULE, MOST_RULES};
@@ -120,6 +122,16 @@ impl<'a> Head<'a> {
             Ok(end)
         }
     }
+}
+
+// Whether words are a grammar, of how many rules, and where these stand into an array of 0.
+pub fn note(words: &[u16], places: &mut [u16; 256]) -> Result<usize, Fault>
+    requires { places.old ≡ no_places }
+    ensures value { shaped words.now result ≡ answer_of (layout words.now) }
+    ensures places_after { OnOk result (places.new ≡ places_of (layout words.now)) }
+    ensures few { IfOk result (λ rules. rules ≤ 256) }
+{
+    Head::judge(words)?.judge_rules(places)
 }
 
 // The first index, from one index up to another, whose word is not below the limit; the other where there is none.

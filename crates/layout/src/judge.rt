@@ -1,13 +1,10 @@
 // The judge of grammar words: whether words are a grammar, and which, or where they break. One pass from the left, by the
 // order in which the words are read (`head`), which also notes where each rule stands.
-ghost use Rattle.std.specs.Prelude.{◌≡◌, ◌≤◌, ◌<◌, length, IfOk, OnOk};
+ghost use Rattle.std.specs.Prelude.{◌≡◌};
 ghost use Rattle.grammar.specs.Words.{layout};
-ghost use Rattle.layout.specs.Judge.{answer_of, no_places, places_of};
-ghost use Rattle.layout.specs.Read.{ReadOf};
-ghost use Rattle.layout.specs.JudgeParts.{shaped};
+ghost use Rattle.layout.specs.Judge.{answer_of, placed_of};
 
-use crate::head::Head;
-use crate::reading::Reading;
+use crate::head::note;
 use crate::words::word;
 use answers::Refusal;
 
@@ -20,10 +17,34 @@ pub struct Shape {
     pub rules: usize,
 }
 
+// The same, and where each rule stands: the index of its left side, by number, and 0 past the rules. It holds on to no words.
+#[derive(Clone, Copy)]
+pub struct Placed {
+    pub shape: Shape,
+    pub places: [u16; 256],
+}
+
 // Words that are no grammar: the place of the first fault.
 #[derive(Clone, Copy, Debug, PartialEq, Eq)]
 pub struct Fault {
     pub place: usize,
+}
+
+impl Shape {
+    ghost use Rattle.std.specs.Prelude.{get_or};
+    ghost use Rattle.layout.specs.Judge.{shape};
+
+    // That of so many rules, with the first three words.
+    fn of(words: &[u16], rules: usize) -> Shape
+        ensures { result ≡ shape (get_or words.now 0 0) (get_or words.now 1 0) (get_or words.now 2 0) rules }
+    {
+        Shape {
+            nonterminals: word(words, 0),
+            terminals: word(words, 1),
+            start: word(words, 2),
+            rules,
+        }
+    }
 }
 
 impl From<Fault> for Refusal {
@@ -40,36 +61,17 @@ pub fn judge(words: &[u16]) -> Result<Shape, Fault>
     ensures { result ≡ answer_of (layout words.now) }
 {
     let rules = note(words, &mut [0; 256])?;
-    Ok(Shape {
-        nonterminals: word(words, 0),
-        terminals: word(words, 1),
-        start: word(words, 2),
-        rules,
-    })
+    Ok(Shape::of(words, rules))
 }
 
 // The same, with where the rules stand.
-pub fn read(words: &[u16]) -> Result<Reading<'_>, Fault>
-    ensures { ReadOf words.entry result }
+pub fn read(words: &[u16]) -> Result<Placed, Fault>
+    ensures { result ≡ placed_of (layout words.now) }
 {
     let mut places = [0u16; 256];
     let rules = note(words, &mut places)?;
-    Ok(Reading {
-        words,
+    Ok(Placed {
+        shape: Shape::of(words, rules),
         places,
-        nonterminals: cells::read(words, 0),
-        terminals: cells::read(words, 1),
-        start: cells::read(words, 2),
-        rules: rules as u16,
     })
-}
-
-// Whether words are a grammar, of how many rules, and where these stand into an array of 0.
-fn note(words: &[u16], places: &mut [u16; 256]) -> Result<usize, Fault>
-    requires { places.old ≡ no_places }
-    ensures value { shaped words.now result ≡ answer_of (layout words.now) }
-    ensures places_after { OnOk result (places.new ≡ places_of (layout words.now)) }
-    ensures few { IfOk result (λ rules. rules ≤ 256) }
-{
-    Head::judge(words)?.judge_rules(places)
 }

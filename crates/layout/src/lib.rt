@@ -7,5 +7,7 @@ mod head;
 pub mod judge;
 pub mod reading;
 pub mod rules;
+#[cfg(test)]
+mod tests;
 pub mod walk;
 pub mod words;

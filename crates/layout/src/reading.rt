@@ -1,9 +1,11 @@
 // A reading of words that are a grammar: the words, where each rule stands, and the grammar's numbers. Whoever makes one proves the two
-// ghost fields, which say what is known of every reading; `judge::read` does. The layers above hand a reading on in place of its parts.
+// ghost fields, which say what is known of every reading; `of` does. The layers above hand a reading on in place of its parts.
 ghost use Rattle.std.specs.Prelude.{◌≡◌, ◌∷◌, []};
 ghost use Rattle.grammar.specs.Words.{layout};
 ghost use Rattle.layout.specs.Judge.{numbers_of, places_of};
 
+use crate::head::note;
+use crate::judge::{Fault, Placed, Shape};
 use crate::rules;
 use cells::read;
 
@@ -23,7 +25,39 @@ pub struct Reading<'a> {
 
 impl<'a> Reading<'a> {
     ghost use Rattle.std.specs.Prelude.{◌≤◌, length};
+    ghost use Rattle.layout.specs.Read.{ReadOf, placed_in};
     ghost use Rattle.layout.specs.Sides.{left_of, right_of};
+
+    // That of words that are a grammar; of others where they break.
+    pub fn of(words: &'a [u16]) -> Result<Reading<'a>, Fault>
+        ensures { ReadOf words.entry result }
+    {
+        let mut places = [0u16; 256];
+        let rules = note(words, &mut places)?;
+        Ok(Reading {
+            words,
+            places,
+            nonterminals: read(words, 0),
+            terminals: read(words, 1),
+            start: read(words, 2),
+            rules: rules as u16,
+        })
+    }
+
+    // What it says of the words, by value.
+    pub fn placed(&self) -> Placed
+        ensures { result ≡ placed_in self.now }
+    {
+        Placed {
+            shape: Shape {
+                nonterminals: usize::from(self.nonterminals),
+                terminals: usize::from(self.terminals),
+                start: usize::from(self.start),
+                rules: usize::from(self.rules),
+            },
+            places: self.places,
+        }
+    }
 
     // The left side of the rule of a number.
     pub fn left(&self, number: u16) -> u16

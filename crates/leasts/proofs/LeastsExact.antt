@@ -1,21 +1,25 @@
--- What the promise says of a nonterminal, exactly: it has no figure exactly where it has no tree, and a figure up to the limit
+-- What the promises say of a nonterminal, exactly: it has no figure exactly where it has no tree, and a figure up to the limit
 -- exactly where that is its least. Assumes nothing.
 use Prim.Native.Nat.{ℕ, ◌≤◌, ◌<◌}
 use native.Mathlib.Omega.{arith}
-use mathlib.Core.Path.{◌≡◌, refl, subst}
+use mathlib.Core.Path.{◌≡◌, refl, subst, ap, ◌∙◌}
 use mathlib.Core.Logic.{◌↔◌}
 use mathlib.Core.List.{List}
 use denote.Ref.{Bor}
 use Rattle.std.specs.Prelude.{Result, Ok, Err, IsOkAnd}
+use Rattle.layout.specs.Judge.{placed_of}
+use Rattle.layout.specs.declared.judge.Placed.{Placed}
 use Rattle.layout.specs.declared.judge.Fault.{Fault}
+use Rattle.layout.proofs.ReadingsSame.{reading_placed}
 use Rattle.grammar.specs.Words.{Grammar, layout, reads, faults}
 use Rattle.grammar.specs.Tree.{Tree}
 use Rattle.grammar.specs.Terms.{measure, limit}
 use Rattle.grammar.specs.Least.{Least}
 use Rattle.grammar.proofs.Unique.{least_unique}
 use Rattle.figures.specs.Figures.{no_figure, figure, capped}
-use Rattle.leasts.specs.Promise.{LeastFigure, of_tree, no_tree, FiguresOf, LeastsOf}
+use Rattle.leasts.specs.Promise.{LeastFigure, of_tree, no_tree, FiguresOf, LeastsOf, FiguresFound, FoundOf, placed_leasts}
 use Rattle.leasts.specs.declared.FoundLeasts.{FoundLeasts}
+use Rattle.leasts.specs.declared.PlacedLeasts.{PlacedLeasts}
 
 module _ {g : Grammar} {A : ℕ} where
   none_no_tree : {x : ℕ} → LeastFigure g A x → x ≡ no_figure → ¬ Tree g A
@@ -34,22 +38,22 @@ module _ {g : Grammar} {A : ℕ} where
   least_low (of_tree {x} least) z l = let e = least_unique {c = measure} least z in omega arith
   least_low (no_tree none) z l = absurd (none z.tree)
 
-module _ (words : Bor (List ℕ)) {g : Grammar} (e : layout words.now ≡ reads g) where
+module _ (ws : List ℕ) {g : Grammar} (e : layout ws ≡ reads g) where
   -- the words are no other grammar, and nowhere broken
-  pub figures_of_lem : {found : FoundLeasts} → LeastsOf words (Ok found) → FiguresOf g found.leasts found.sizes
-  figures_of_lem p = let (h, is, figures) = p.figures in let same : h ≡ g = cc in rw same at figures
+  pub figures_of_lem : {found : PlacedLeasts} → LeastsOf ws (Ok found) → FiguresOf g found.leasts found.sizes
+  figures_of_lem (h, is, (at, figures)) = let same : h ≡ g = cc in rw same at figures
 
-  no_fault : {p : ℕ} → ¬ (layout words.now ≡ faults p)
+  no_fault : {p : ℕ} → ¬ (layout ws ≡ faults p)
   no_fault broken = absurd (let z : ◌≡◌ {A = ℕ} 0 1 = cc in omega arith)
 
-  pub no_figure_exactly : (r : Result FoundLeasts Fault) → LeastsOf words r →
+  pub no_figure_exactly : (r : Result PlacedLeasts Fault) → LeastsOf ws r →
       IsOkAnd r (λ found. (A : ℕ) → A < g.N → (figure found.leasts A ≡ no_figure) ↔ ¬ Tree g A)
   no_figure_exactly (Ok found) p = λ A lt.
       let least = (figures_of_lem p).least A lt in
       (none_no_tree least, no_tree_none least)
   no_figure_exactly (Err f) p = no_fault p
 
-  pub least_exactly : (r : Result FoundLeasts Fault) → LeastsOf words r →
+  pub least_exactly : (r : Result PlacedLeasts Fault) → LeastsOf ws r →
       IsOkAnd r (λ found. (A : ℕ) → A < g.N → (x : ℕ) → x ≤ limit → (figure found.leasts A ≡ x) ↔ Least measure g A x)
   least_exactly (Ok found) p = λ A lt x l.
       let least = (figures_of_lem p).least A lt in (
@@ -57,3 +61,28 @@ module _ (words : Bor (List ℕ)) {g : Grammar} (e : layout words.now ≡ reads 
         λ other. least_low least other l,
       )
   least_exactly (Err f) p = no_fault p
+
+-- what is found with a reading is, without the words, what `leasts` answers of them
+pub found_placed : (words : Bor (List ℕ)) (found : FoundLeasts) → FiguresFound words found → LeastsOf words.now (Ok (placed_leasts found))
+found_placed words found p =
+    let (g, is, figures) = p.figures in
+    let at = reading_placed words found.reading p.same in
+    (g, is, (placed_same (at ∙ ap placed_of is), figures))
+  where
+    placed_same : {v w : Placed} → ◌≡◌ {A = Result Placed Fault} (Ok v) (Ok w) → v ≡ w
+    placed_same {v} e = ap (λ (r : Result Placed Fault). placed_or v r) e
+      where
+        placed_or : Placed → Result Placed Fault → Placed
+        placed_or v (Ok w) = w
+        placed_or v (Err f) = v
+
+module _ (words : Bor (List ℕ)) {g : Grammar} (e : layout words.now ≡ reads g) where
+  pub found_no_figure_exactly : (r : Result FoundLeasts Fault) → FoundOf words r →
+      IsOkAnd r (λ found. (A : ℕ) → A < g.N → (figure found.leasts A ≡ no_figure) ↔ ¬ Tree g A)
+  found_no_figure_exactly (Ok found) p = no_figure_exactly words.now e (Ok (placed_leasts found)) (found_placed words found p)
+  found_no_figure_exactly (Err f) p = no_figure_exactly words.now e (Err f) p
+
+  pub found_least_exactly : (r : Result FoundLeasts Fault) → FoundOf words r →
+      IsOkAnd r (λ found. (A : ℕ) → A < g.N → (x : ℕ) → x ≤ limit → (figure found.leasts A ≡ x) ↔ Least measure g A x)
+  found_least_exactly (Ok found) p = least_exactly words.now e (Ok (placed_leasts found)) (found_placed words found p)
+  found_least_exactly (Err f) p = least_exactly words.now e (Err f) p

@@ -1,5 +1,5 @@
--- The promise of `leasts` can be met for any words: of each nonterminal it is decided whether it has a tree, and then it has a
--- least. Assumes nothing.
+-- The promises of `leasts` and of `FoundLeasts::of` can be met for any words: of each nonterminal it is decided whether it has a
+-- tree, and then it has a least. Assumes nothing.
 use Prim.Native.Nat.{ℕ, ◌+◌, ◌≤◌, ◌<◌}
 use native.Mathlib.Omega.{arith}
 use native.Mathlib.Decide.{dec_lt}
@@ -11,7 +11,7 @@ use denote.Ref.{Bor}
 use Rattle.std.specs.Prelude.{Result, Ok, Err}
 use Rattle.answers.specs.Lists.{tabulate}
 use Rattle.answers.proofs.Tabulate.{length-tabulate, get_d_tabulate}
-use Rattle.grammar.specs.Words.{Grammar, RuleAt, R, InBounds}
+use Rattle.grammar.specs.Words.{Grammar, RuleAt, R, InBounds, Judged, layout, reads, faults}
 use Rattle.grammar.specs.Tree.{Tree, ◌∈◌}
 use Rattle.grammar.specs.Terms.{measure}
 use Rattle.grammar.specs.Least.{Least}
@@ -20,6 +20,7 @@ use Rattle.grammar.proofs.LayoutExact.{in_bounds, rule_at}
 use Rattle.grammar.proofs.LeastsExist.{least?, tree?}
 use Rattle.grammar.proofs.RuleNumbers.{rule_right, rule_number}
 use Rattle.grammar.proofs.Search.{member?, some_below}
+use Rattle.layout.specs.Judge.{fault, placed}
 use Rattle.layout.specs.Read.{ReadOf}
 use Rattle.layout.specs.declared.judge.Fault.{Fault}
 use Rattle.layout.specs.declared.reading.Reading.{Reading}
@@ -27,9 +28,10 @@ use Rattle.layout.proofs.WordsRead.{begun_of}
 use Rattle.figures.specs.Figures.{no_figure, figure, capped}
 use Rattle.figures.proofs.FiguresFall.{figure_is}
 use Rattle.leasts.specs.Promise.{LeastFigure, of_tree, no_tree, HaveTrees, SizeFigure, of_trees, no_trees}
-use Rattle.leasts.specs.Promise.{FiguresOf, LeastsOf}
+use Rattle.leasts.specs.Promise.{FiguresOf, LeastsOf, FoundOf}
 use Rattle.leasts.specs.declared.FoundLeasts.{FoundLeasts}
-use Rattle.layout.proofs.ReadingMade.{read_met}
+use Rattle.leasts.specs.declared.PlacedLeasts.{PlacedLeasts}
+use Rattle.layout.proofs.ReadingMade.{reading_met}
 
 -- words by their places
 at_place : (f : ℕ → ℕ) (n i d : ℕ) → i < n → get_or (tabulate f n) i d ≡ f i
@@ -123,10 +125,20 @@ module _ (g : Grammar) (ok : InBounds g) where
       no_size k past (no l) = past_end (λ k. (size_at k).0) 256 k 0 (omega arith)
 
 -- MET
-pub leasts_met : (words : Bor (List ℕ)) → (r : Result FoundLeasts Fault) × LeastsOf words r
-leasts_met words = go (read_met words)
+pub leasts_met : (ws : List ℕ) → (r : Result PlacedLeasts Fault) × LeastsOf ws r
+leasts_met ws = go (layout ws) refl
   where
-    go : (r : Result Reading Fault) × ReadOf words r → (r : Result FoundLeasts Fault) × LeastsOf words r
+    go : (j : Judged Grammar) → layout ws ≡ j → (r : Result PlacedLeasts Fault) × LeastsOf ws r
+    go (reads g) is =
+        let ok = in_bounds ws is in
+        let found : PlacedLeasts = record { placed = placed g; leasts = leasts g ok; sizes = sizes g ok } in
+        (Ok found, (g, is, (refl, figures_met g ok)))
+    go (faults p) is = (Err (fault p), is)
+
+pub found_met : (words : Bor (List ℕ)) → (r : Result FoundLeasts Fault) × FoundOf words r
+found_met words = go (reading_met words)
+  where
+    go : (r : Result Reading Fault) × ReadOf words r → (r : Result FoundLeasts Fault) × FoundOf words r
     go (Ok v, same) =
         let b = begun_of v in
         let g = b.grammar in

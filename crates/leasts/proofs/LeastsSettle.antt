@@ -1,5 +1,5 @@
--- Any two outcomes that the promise of `leasts` allows for the same words coincide: there is one reading or one fault, a
--- nonterminal has one least or no tree, and by the leasts a rule has one size. Assumes nothing.
+-- Any two outcomes that the promise of `leasts`, or that of `FoundLeasts::of`, allows for the same words coincide: there is one reading
+-- or one fault, a nonterminal has one least or no tree, and by the leasts a rule has one size. Assumes nothing.
 use Prim.Native.Nat.{ℕ, ◌<◌}
 use native.Mathlib.Omega.{arith}
 use native.Mathlib.Decide.{dec_lt}
@@ -9,16 +9,17 @@ use lib.ListN.{get_or}
 use lib.Seq.{ext_get_or}
 use denote.Ref.{Bor}
 use Rattle.std.specs.Prelude.{Result, Ok, Err}
-use Rattle.grammar.specs.Words.{Grammar, R, InBounds, reads, faults}
+use Rattle.grammar.specs.Words.{Grammar, R, InBounds, layout, reads, faults, Are}
 use Rattle.grammar.specs.Terms.{measure}
-use Rattle.grammar.proofs.LayoutExact.{in_bounds, rule_at}
+use Rattle.grammar.proofs.LayoutExact.{in_bounds, rule_at, reads_unique}
 use Rattle.grammar.proofs.Unique.{least_unique}
-use Rattle.layout.specs.Judge.{fault}
+use Rattle.layout.specs.Judge.{fault, placed}
 use Rattle.layout.specs.declared.judge.Fault.{Fault}
 use Rattle.layout.proofs.ReadingsSame.{same_reading}
 use Rattle.figures.specs.Figures.{no_figure, figure, capped}
-use Rattle.leasts.specs.Promise.{LeastFigure, of_tree, no_tree, SizeFigure, of_trees, no_trees, FiguresOf, LeastsOf}
+use Rattle.leasts.specs.Promise.{LeastFigure, of_tree, no_tree, SizeFigure, of_trees, no_trees, FiguresOf, LeastsOf, FoundOf}
 use Rattle.leasts.specs.declared.FoundLeasts.{FoundLeasts}
+use Rattle.leasts.specs.declared.PlacedLeasts.{PlacedLeasts}
 
 figure_settles : {g : Grammar} {A x y : ℕ} → LeastFigure g A x → LeastFigure g A y → x ≡ y
 figure_settles (of_tree least) (of_tree other) = ap capped (least_unique {c = measure} least other)
@@ -53,20 +54,34 @@ module _ {g : Grammar} (ok : InBounds g) {leasts sizes : List ℕ} (p : FiguresO
       let q' : FiguresOf g leasts sizes' = rw e q in
       (e, sizes_same q')
 
+-- of the same words, whichever grammar's they are
+figures_same : (ws : List ℕ) {leasts sizes leasts' sizes' : List ℕ} → Are ws (λ g. FiguresOf g leasts sizes) →
+    Are ws (λ g. FiguresOf g leasts' sizes') → (leasts ≡ leasts') × (sizes ≡ sizes')
+figures_same ws (g, is, figures) (h, is', others) =
+    let same : h ≡ g = cc in
+    figures_settle (in_bounds ws is) figures (rw same at others)
+
 no_fault : {g : Grammar} {p : ℕ} → ¬ (reads g ≡ faults p)
 no_fault e = absurd (let z : ◌≡◌ {A = ℕ} 0 1 = cc in omega arith)
 
+same_fault : (ws : List ℕ) {e f : Fault} → layout ws ≡ faults e.place → layout ws ≡ faults f.place → e ≡ f
+same_fault ws {e = e} {f = f} p q = let same : e.place ≡ f.place = cc in ap fault same
+
 -- SETTLED
-pub leasts_settles : (words : Bor (List ℕ)) {r s : Result FoundLeasts Fault} → LeastsOf words r → LeastsOf words s → r ≡ s
-leasts_settles words {r = Ok r} {s = Ok s} p q =
-    let (g, is, figures) = p.figures in
-    let (h, is', others) = q.figures in
-    let same : h ≡ g = cc in
-    let (leasts, sizes) = figures_settle (in_bounds words.now is) figures (rw same at others) in
+pub leasts_settles : (ws : List ℕ) {r s : Result PlacedLeasts Fault} → LeastsOf ws r → LeastsOf ws s → r ≡ s
+leasts_settles ws {r = Ok r} {s = Ok s} (g, is, (at, figures)) (h, is', (at', others)) =
+    let (leasts, sizes) = figures_same ws (g, is, figures) (h, is', others) in
+    let places = at ∙ ap placed (reads_unique ws is is') ∙ sym at' in
+    ap Ok (λ i. record { placed = places i; leasts = leasts i; sizes = sizes i })
+leasts_settles ws {r = Ok r} {s = Err f} (g, is, figures) q = absurd (no_fault (sym is ∙ q))
+leasts_settles ws {r = Err e} {s = Ok s} p (g, is, figures) = absurd (no_fault (sym is ∙ p))
+leasts_settles ws {r = Err e} {s = Err f} p q = ap Err (same_fault ws p q)
+
+pub found_settles : (words : Bor (List ℕ)) {r s : Result FoundLeasts Fault} → FoundOf words r → FoundOf words s → r ≡ s
+found_settles words {r = Ok r} {s = Ok s} p q =
+    let (leasts, sizes) = figures_same words.now p.figures q.figures in
     let reading = same_reading r.reading s.reading (p.same ∙ sym q.same) in
     ap Ok (λ i. record { reading = reading i; leasts = leasts i; sizes = sizes i })
-leasts_settles words {r = Ok r} {s = Err f} p q = absurd (let (g, is, figures) = p.figures in no_fault (sym is ∙ q))
-leasts_settles words {r = Err e} {s = Ok s} p q = absurd (let (g, is, figures) = q.figures in no_fault (sym is ∙ p))
-leasts_settles words {r = Err e} {s = Err f} p q =
-    let same : e.place ≡ f.place = cc in
-    ap (λ (p : ℕ). Err (fault p)) same
+found_settles words {r = Ok r} {s = Err f} p q = absurd (let (g, is, figures) = p.figures in no_fault (sym is ∙ q))
+found_settles words {r = Err e} {s = Ok s} p q = absurd (let (g, is, figures) = q.figures in no_fault (sym is ∙ p))
+found_settles words {r = Err e} {s = Err f} p q = ap Err (same_fault words.now p q)

@@ -1,5 +1,5 @@
--- The outcome of `leasts` for a grammar's words: at the outset nothing has a least and every size is 0, and after the rounds the
--- arrays hold the figures of the promise. Assumes nothing.
+-- The outcome of `FoundLeasts::of` for a grammar's words: at the outset nothing has a least and every size is 0, and after the rounds
+-- the arrays hold the figures of the promise. Assumes nothing.
 use Prim.Native.Nat.{ℕ, ◌<◌}
 use native.Mathlib.Omega.{arith}
 use native.Mathlib.Decide.{dec_lt}

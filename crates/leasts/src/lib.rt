@@ -6,13 +6,14 @@ mod chains;
 mod rounds;
 mod rule;
 mod sizes;
+#[cfg(test)]
+mod tests;
 
 ghost use Rattle.leasts.specs.Promise.{LeastsOf};
 
 use crate::rounds::least_rounds;
 use figures::NO_FIGURE;
-use layout::judge;
-use layout::judge::Fault;
+use layout::judge::{Fault, Placed};
 use layout::reading::Reading;
 
 // What was read of words that are a grammar; its leasts, cut at 4,097, with NO_FIGURE for a nonterminal that has no tree and past
@@ -25,16 +26,40 @@ pub struct FoundLeasts<'a> {
     pub sizes: [u32; 256],
 }
 
-pub fn leasts(words: &[u16]) -> Result<FoundLeasts<'_>, Fault>
-    ensures { LeastsOf words.entry result }
+// The same by value: it holds on to no words.
+#[derive(Drop)]
+pub struct PlacedLeasts {
+    pub placed: Placed,
+    pub leasts: [u16; 128],
+    pub sizes: [u32; 256],
+}
+
+impl<'a> FoundLeasts<'a> {
+    ghost use Rattle.leasts.specs.Promise.{FoundOf};
+
+    // Those of words that are a grammar; of others where they break.
+    pub fn of(words: &'a [u16]) -> Result<FoundLeasts<'a>, Fault>
+        ensures { FoundOf words.entry result }
+    {
+        let reading = Reading::of(words)?;
+        let mut leasts = [NO_FIGURE; 128];
+        let mut sizes = [0u32; 256];
+        least_rounds(&reading, &mut leasts, &mut sizes);
+        Ok(FoundLeasts {
+            reading,
+            leasts,
+            sizes,
+        })
+    }
+}
+
+pub fn leasts(words: &[u16]) -> Result<PlacedLeasts, Fault>
+    ensures { LeastsOf words.now result }
 {
-    let reading = judge::read(words)?;
-    let mut leasts = [NO_FIGURE; 128];
-    let mut sizes = [0u32; 256];
-    least_rounds(&reading, &mut leasts, &mut sizes);
-    Ok(FoundLeasts {
-        reading,
-        leasts,
-        sizes,
+    let found = FoundLeasts::of(words)?;
+    Ok(PlacedLeasts {
+        placed: found.reading.placed(),
+        leasts: found.leasts,
+        sizes: found.sizes,
     })
 }

@@ -11,7 +11,7 @@ ghost use Rattle.replay.specs.Replay.{Replay};
 
 use crate::rule_list::RuleList;
 use answers::Refusal;
-use layout::judge;
+use layout::reading::Reading;
 
 // What `replay` answers: the number of tokens written, or the refusal's number and place.
 // Document 01 names this form: an enum for each call family, with a refusal's number and place.
@@ -50,7 +50,7 @@ pub fn replay(words: &[u16], list: &[u16], sentence: &mut [u16]) -> ReplayAnswer
 fn replayed(words: &[u16], list: &[u16], sentence: &mut [u16]) -> Result<usize, Refusal>
     ensures { Replay words.now list.now sentence.old (told result) sentence.new }
 {
-    let reading = judge::read(words)?;
+    let reading = Reading::of(words)?;
     let list = RuleList::new(&reading, list)?;
     rows::of_list(&list, sentence)
 }

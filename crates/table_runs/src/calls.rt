@@ -37,14 +37,14 @@ fn print_answer(answer: TableAnswer, table: &[u16]) {
     }
 }
 
-// Whether the table is the grammar's own, and then what was read of the words.
+// Whether the table is the grammar's own, and then the grammar's numbers.
 fn print_test(words: &[u16], table: &[u16]) {
     match table_test::test(words, table) {
-        Some(reading) => {
+        Some(placed) => {
             print::text(b" its");
-            print::word(reading.nonterminals);
-            print::word(reading.start);
-            print::word(reading.rules);
+            print::number(placed.shape.nonterminals);
+            print::number(placed.shape.start);
+            print::number(placed.shape.rules);
         }
         None => print::text(b" not its"),
     }

@@ -3,18 +3,27 @@
 #![tactic(auto)]
 
 mod passes;
+#[cfg(test)]
+mod tests;
 
-ghost use Rattle.table_test.specs.Promise.{Tested};
+ghost use Rattle.table_test.specs.Promise.{TestPromise, Tested};
 
-use layout::judge;
+use layout::judge::Placed;
 use layout::reading::Reading;
 
-// What was read of the words, where they are an accepted grammar and the first words of table are its own. Any words and any table
-// may be lent.
-pub fn test<'a>(words: &'a [u16], table: &[u16]) -> Option<Reading<'a>>
+// What the words are, where they are an accepted grammar and the first words of table are its own. Any words and any table may be
+// lent.
+pub fn test(words: &[u16], table: &[u16]) -> Option<Placed>
+    ensures { TestPromise words.now table.now result }
+{
+    Some(tested(words, table)?.placed())
+}
+
+// The same with the words: what was read of them.
+pub fn tested<'a>(words: &'a [u16], table: &[u16]) -> Option<Reading<'a>>
     ensures { Tested words.entry table.now result }
 {
-    let reading = judge::read(words).ok()?;
+    let reading = Reading::of(words).ok()?;
     if passes::passes(&reading, table) {
         Some(reading)
     } else {

@@ -19,7 +19,7 @@ pub fn worked_out(words: &[u16], table: &mut [u16]) -> Result<usize, Refusal>
     ensures { Tables words.now table.old (told result) table.new }
 {
     // No `?` here: it moves what was found, 1,800 octets, which took tables of D a fifth longer.
-    match &leasts::leasts(words) {
+    match &FoundLeasts::of(words) {
         Ok(found) => of_leasts(found, table),
         Err(fault) => Err(Refusal::from(*fault)),
     }

@@ -1,6 +1,6 @@
--- What the check leaves of `layout::judge::note`: the rest of the words is the promise of the rules. Assumes nothing.
+-- What the check leaves of `layout::head::note`: the rest of the words is the promise of the rules. Assumes nothing.
 use Rattle.layout.proofs.AnswerJudged.{head_passed, rules_shaped, rules_noted}
-use Rattle.layout.proofs.judge.note.Goals as goal
+use Rattle.layout.proofs.head.note.Goals as goal
 
 pub returns-clause-places_after : goal.returns-clause-places_after
 returns-clause-places_after c =
