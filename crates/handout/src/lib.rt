@@ -56,7 +56,7 @@ pub fn next(
         (record { marks = marks.old; tokens = sentence.old; rules = derivation.old }) result
         (record { marks = marks.new; tokens = sentence.new; rules = derivation.new }) }
 {
-    let Some(reading) = table_test::tested(words, table) else {
+    let Some(reading) = table_test::tested_reading(words, table) else {
         return NextAnswer::from(answer::without_table(words));
     };
     let tabled = Tabled {

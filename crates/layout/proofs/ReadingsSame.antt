@@ -8,8 +8,9 @@ use denote.Ref.{Bor}
 use Rattle.std.specs.Prelude.{Result, Ok, Err}
 use Rattle.std.proofs.Props.{props}
 use Rattle.grammar.specs.Words.{Grammar, Judged, reads, faults, layout}
-use Rattle.layout.specs.Judge.{shape, fault, answer_of, numbers_of, places_of, placed_of}
+use Rattle.layout.specs.Judge.{shape, fault, answer_of, numbers_of, places_of, placed, placed_of}
 use Rattle.layout.specs.Read.{ReadOf, placed_in}
+use Rattle.layout.specs.declared.judge.Placed.{Placed}
 use Rattle.layout.specs.declared.judge.Fault.{Fault}
 use Rattle.layout.specs.declared.reading.Reading.{Reading}
 
@@ -84,3 +85,12 @@ reading_placed words v same =
         Ok (placed_in v) ≡ placed_of j
     go (reads g) e places = cc (e, places)
     go (faults p) e places = cc e
+
+-- and of the words of a grammar the grammar's numbers, with where its rules stand
+pub reading_of_grammar : (words : Bor (List ℕ)) (v : Reading) → v.words ≡ words → {g : Grammar} → layout words.now ≡ reads g →
+    placed_in v ≡ placed g
+reading_of_grammar words v same {g} e = ap told (reading_placed words v same ∙ ap placed_of e)
+  where
+    told : Result Placed Fault → Placed
+    told (Ok p) = p
+    told (Err f) = placed g

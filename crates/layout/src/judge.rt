@@ -5,6 +5,7 @@ ghost use Rattle.grammar.specs.Words.{layout};
 ghost use Rattle.layout.specs.Judge.{answer_of, placed_of};
 
 use crate::head::note;
+use crate::reading::Reading;
 use crate::words::word;
 use answers::Refusal;
 
@@ -30,23 +31,6 @@ pub struct Fault {
     pub place: usize,
 }
 
-impl Shape {
-    ghost use Rattle.std.specs.Prelude.{get_or};
-    ghost use Rattle.layout.specs.Judge.{shape};
-
-    // That of so many rules, with the first three words.
-    fn of(words: &[u16], rules: usize) -> Shape
-        ensures { result ≡ shape (get_or words.now 0 0) (get_or words.now 1 0) (get_or words.now 2 0) rules }
-    {
-        Shape {
-            nonterminals: word(words, 0),
-            terminals: word(words, 1),
-            start: word(words, 2),
-            rules,
-        }
-    }
-}
-
 impl From<Fault> for Refusal {
     ghost use Rattle.answers.specs.declared.Refusal.TheVariants.{BrokenLayout};
 
@@ -61,17 +45,17 @@ pub fn judge(words: &[u16]) -> Result<Shape, Fault>
     ensures { result ≡ answer_of (layout words.now) }
 {
     let rules = note(words, &mut [0; 256])?;
-    Ok(Shape::of(words, rules))
+    Ok(Shape {
+        nonterminals: word(words, 0),
+        terminals: word(words, 1),
+        start: word(words, 2),
+        rules,
+    })
 }
 
 // The same, with where the rules stand.
 pub fn read(words: &[u16]) -> Result<Placed, Fault>
     ensures { result ≡ placed_of (layout words.now) }
 {
-    let mut places = [0u16; 256];
-    let rules = note(words, &mut places)?;
-    Ok(Placed {
-        shape: Shape::of(words, rules),
-        places,
-    })
+    Ok(Reading::of(words)?.placed())
 }

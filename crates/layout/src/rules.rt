@@ -1,4 +1,4 @@
-// The rules of grammar words by number: where each stands, as `judge::read` notes it, and its right side.
+// The rules of grammar words by number: where each stands, as `judge::read` tells it, and its right side.
 ghost use Rattle.std.specs.Prelude.{◌≡◌, ◌≤◌, ◌<◌, length, get_or};
 ghost use Rattle.layout.specs.Rules.{right_at};
 

@@ -2,15 +2,13 @@
 -- exactly where that is its least. Assumes nothing.
 use Prim.Native.Nat.{ℕ, ◌≤◌, ◌<◌}
 use native.Mathlib.Omega.{arith}
-use mathlib.Core.Path.{◌≡◌, refl, subst, ap, ◌∙◌}
+use mathlib.Core.Path.{◌≡◌, refl, subst}
 use mathlib.Core.Logic.{◌↔◌}
 use mathlib.Core.List.{List}
 use denote.Ref.{Bor}
 use Rattle.std.specs.Prelude.{Result, Ok, Err, IsOkAnd}
-use Rattle.layout.specs.Judge.{placed_of}
-use Rattle.layout.specs.declared.judge.Placed.{Placed}
 use Rattle.layout.specs.declared.judge.Fault.{Fault}
-use Rattle.layout.proofs.ReadingsSame.{reading_placed}
+use Rattle.layout.proofs.ReadingsSame.{reading_of_grammar}
 use Rattle.grammar.specs.Words.{Grammar, layout, reads, faults}
 use Rattle.grammar.specs.Tree.{Tree}
 use Rattle.grammar.specs.Terms.{measure, limit}
@@ -66,15 +64,7 @@ module _ (ws : List ℕ) {g : Grammar} (e : layout ws ≡ reads g) where
 pub found_placed : (words : Bor (List ℕ)) (found : FoundLeasts) → FiguresFound words found → LeastsOf words.now (Ok (placed_leasts found))
 found_placed words found p =
     let (g, is, figures) = p.figures in
-    let at = reading_placed words found.reading p.same in
-    (g, is, (placed_same (at ∙ ap placed_of is), figures))
-  where
-    placed_same : {v w : Placed} → ◌≡◌ {A = Result Placed Fault} (Ok v) (Ok w) → v ≡ w
-    placed_same {v} e = ap (λ (r : Result Placed Fault). placed_or v r) e
-      where
-        placed_or : Placed → Result Placed Fault → Placed
-        placed_or v (Ok w) = w
-        placed_or v (Err f) = v
+    (g, is, (reading_of_grammar words found.reading p.same is, figures))
 
 module _ (words : Bor (List ℕ)) {g : Grammar} (e : layout words.now ≡ reads g) where
   pub found_no_figure_exactly : (r : Result FoundLeasts Fault) → FoundOf words r →

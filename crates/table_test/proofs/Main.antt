@@ -1,4 +1,4 @@
--- The final statements of this crate, each by one citation: what the promises of `test` and `tested` come to. A reader who believes
+-- The final statements of this crate, each by one citation: what the promises of `test` and `tested_reading` come to. A reader who believes
 -- entries' specs/Table and specs/Promise and reads this page is done. Assumes nothing.
 use Prim.Native.Nat.{ℕ}
 use mathlib.Core.Path.{◌≡◌}
@@ -10,6 +10,7 @@ use Rattle.std.specs.Prelude.{Option, Some, None}
 use Rattle.grammar.specs.Words.{R, layout, Are}
 use Rattle.grammar.specs.Samples.{D_words, D_table}
 use Rattle.layout.specs.Judge.{shape, places_of}
+use Rattle.layout.specs.Read.{placed_in}
 use Rattle.layout.specs.declared.judge.Placed.{Placed}
 use Rattle.layout.specs.declared.reading.Reading.{Reading}
 use Rattle.entries.specs.Table.{Own}
@@ -39,7 +40,7 @@ pub test_places : (ws table : List ℕ) {r : Option Placed} → TestPromise ws t
     p.places ≡ places_of (layout ws)
 test_places = TestSettles.test_places
 
--- THE SAME WITH A READING, of `tested`.
+-- THE SAME WITH A READING, of `tested_reading`.
 pub tested_settles : (words : Bor (List ℕ)) (table : List ℕ) {r s : Option Reading} → Tested words table r → Tested words table s →
     r ≡ s
 tested_settles = TestSettles.tested_settles
@@ -60,6 +61,11 @@ tested_not_its = TestSettles.tested_not_its
 pub tested_places : (words : Bor (List ℕ)) (table : List ℕ) {r : Option Reading} → Tested words table r →
     (v : Reading) → r ≡ Some v → (v.words ≡ words) × (v.places ≡ places_of (layout words.now))
 tested_places = TestSettles.tested_places
+
+-- Without the words it is what `test` answers of them.
+pub tested_placed : (words : Bor (List ℕ)) (table : List ℕ) (v : Reading) → Tested words table (Some v) →
+    TestPromise words.now table (Some (placed_in v))
+tested_placed = TestSettles.tested_placed
 
 -- SAMPLES. Document 01's table of D, with a word behind it, and twenty words.
 pub D_table_its : (p : Placed) × TestPromise D_words (D_table ++ 9 ∷ []) (Some p) × (p.shape ≡ shape 3 4 0 6)

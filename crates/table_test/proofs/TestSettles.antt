@@ -1,4 +1,4 @@
--- The promises of `test` and of `tested` settle their answers: for each words and each table there is exactly one outcome that each
+-- The promises of `test` and of `tested_reading` settle their answers: for each words and each table there is exactly one outcome that each
 -- allows, and each answer is given exactly when it should be. Words are refused by one of rows 4 to 7 or are an accepted grammar,
 -- and then the table is its own or not. Assumes nothing.
 use Prim.Native.Nat.{ℕ}
@@ -16,9 +16,10 @@ use Rattle.grammar.proofs.LayoutExact.{reads_unique, in_bounds}
 use Rattle.grammar.proofs.FirstRows.{refused_or_accepted}
 use Rattle.grammar.proofs.FirstRowsMet.{refused?}
 use Rattle.layout.specs.Judge.{places_of, placed}
+use Rattle.layout.specs.Read.{placed_in}
 use Rattle.layout.specs.declared.judge.Placed.{Placed}
 use Rattle.layout.specs.declared.reading.Reading.{Reading}
-use Rattle.layout.proofs.ReadingsSame.{same_reading}
+use Rattle.layout.proofs.ReadingsSame.{same_reading, reading_of_grammar}
 use Rattle.entries.specs.Table.{HasTable, Own}
 use Rattle.entries.proofs.TableExists.{tabled?}
 use Rattle.table_test.specs.Promise.{TestPromise, Tested, its, not_its}
@@ -133,3 +134,7 @@ module _ (words : Bor (List ℕ)) (table : List ℕ) where
     tested_places v e =
         let is = read_words (rw e at t) in
         (is, v.stand ∙ ap (λ (x : Bor (List ℕ)). places_of (layout x.now)) is)
+
+  -- without the words it is what `test` answers of them
+  pub tested_placed : (v : Reading) → Tested words table (Some v) → TestPromise words.now table (Some (placed_in v))
+  tested_placed v (its {g = g} e own is) = (g, e, (reading_of_grammar words v is e, own))

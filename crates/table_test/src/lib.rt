@@ -16,11 +16,11 @@ use layout::reading::Reading;
 pub fn test(words: &[u16], table: &[u16]) -> Option<Placed>
     ensures { TestPromise words.now table.now result }
 {
-    Some(tested(words, table)?.placed())
+    Some(tested_reading(words, table)?.placed())
 }
 
 // The same with the words: what was read of them.
-pub fn tested<'a>(words: &'a [u16], table: &[u16]) -> Option<Reading<'a>>
+pub fn tested_reading<'a>(words: &'a [u16], table: &[u16]) -> Option<Reading<'a>>
     ensures { Tested words.entry table.now result }
 {
     let reading = Reading::of(words).ok()?;
