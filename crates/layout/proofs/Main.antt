@@ -74,7 +74,7 @@ pub judge_grammar_exact : (ws : List ℕ) {r : Result Shape Fault} → r ≡ ans
     (r ≡ Ok (shape N T S n)) ↔ WordsOf ws N T S n
 judge_grammar_exact ws e = JudgeExact.judge_grammar_exact ws e
 
--- Over a grammar's words the walk hands out its rules in order and then ends, place by place and by `next`; what `read` notes
+-- Over a grammar's words the walk hands out its rules in order and then ends, place by place and by `next`; what `read` tells
 -- is the index of the left side of each, and `right` gives the right side of the rule there.
 pub walk_in_order : (ws : List ℕ) (g : Grammar) → layout ws ≡ reads g → HandsOut ws 0 walk_start g.rules
 walk_in_order ws g e = WalkInOrder.walk_in_order ws g e

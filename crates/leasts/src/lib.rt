@@ -1,5 +1,5 @@
-// The leasts of a grammar's nonterminals and the sizes of its rules by them, worked out by rounds over all rules. What the call
-// promises of any words is specs/Promise.
+// The leasts of a grammar's nonterminals and the sizes of its rules by them, worked out by rounds over all rules. What the calls
+// promise of any words is specs/Promise.
 #![tactic(auto)]
 
 mod chains;
@@ -18,7 +18,8 @@ use layout::reading::Reading;
 
 // What was read of words that are a grammar; its leasts, cut at 4,097, with NO_FIGURE for a nonterminal that has no tree and past
 // the last; and the sizes of its rules, with 0 for a rule that names such a nonterminal and past the last.
-// NO_FIGURE and 0, and no Option: the theorems no_figure_exactly and found_no_figure_exactly and the promise (SizeFigure) say them of the words.
+// NO_FIGURE and 0, and no Option: the theorems no_figure_exactly and found_no_figure_exactly and the promise (SizeFigure) say them of
+// the words.
 #[derive(Drop)]
 pub struct FoundLeasts<'a> {
     pub reading: Reading<'a>,

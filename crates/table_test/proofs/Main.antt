@@ -35,7 +35,7 @@ test_its = TestSettles.test_its
 pub test_not_its : (ws table : List ℕ) {r : Option Placed} → TestPromise ws table r → (r ≡ None) ↔ ¬ Are ws (Own table)
 test_not_its = TestSettles.test_not_its
 
--- With them stand the places of the grammar's rules, as `layout::judge::read` notes them.
+-- With them stand the places of the grammar's rules, as `layout::judge::read` tells them.
 pub test_places : (ws table : List ℕ) {r : Option Placed} → TestPromise ws table r → (p : Placed) → r ≡ Some p →
     p.places ≡ places_of (layout ws)
 test_places = TestSettles.test_places

@@ -1,5 +1,5 @@
 // Whether a lent table is that of the grammar that words are, by one pass over the words and the table and no rounds. What the
-// words of a table mean is entries' specs/Table; what the call answers is specs/Promise.
+// words of a table mean is entries' specs/Table; what the calls answer is specs/Promise.
 #![tactic(auto)]
 
 mod passes;
