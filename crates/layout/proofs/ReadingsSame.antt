@@ -10,7 +10,6 @@ use Rattle.std.proofs.Props.{props}
 use Rattle.grammar.specs.Words.{Grammar, Judged, reads, faults, layout}
 use Rattle.layout.specs.Judge.{shape, fault, answer_of, numbers_of, places_of, placed, placed_of}
 use Rattle.layout.specs.Read.{ReadOf, placed_in}
-use Rattle.layout.specs.declared.judge.Placed.{Placed}
 use Rattle.layout.specs.declared.judge.Fault.{Fault}
 use Rattle.layout.specs.declared.reading.Reading.{Reading}
 
@@ -55,15 +54,15 @@ same_reading v w p = λ i. record {
 no_fault : (v : Reading) (p : ℕ) → ¬ (layout v.words.now ≡ faults p)
 no_fault v p e = absurd (let z : ◌≡◌ {A = List ℕ} [] (v.nonterminals ∷ v.terminals ∷ v.start ∷ v.rules ∷ []) = sym (ap numbers_of e) ∙ v.numbers in cc)
 
+-- words break at one place
+pub same_fault : (ws : List ℕ) {e f : Fault} → layout ws ≡ faults e.place → layout ws ≡ faults f.place → e ≡ f
+same_fault ws {e = e} {f = f} p q = let same : e.place ≡ f.place = cc in ap fault same
+
 pub reading_settles : (words : Bor (List ℕ)) {r s : Result Reading Fault} → ReadOf words r → ReadOf words s → r ≡ s
 reading_settles words {r = Ok v} {s = Ok w} p q = ap Ok (same_reading v w (p ∙ sym q))
 reading_settles words {r = Ok v} {s = Err f} p q = absurd (no_fault v f.place (rw p q))
 reading_settles words {r = Err e} {s = Ok w} p q = absurd (no_fault w e.place (rw q p))
-reading_settles words {r = Err e} {s = Err f} p q = ap (λ (j : Judged Grammar). Err (fault (place_of_fault j))) (sym p ∙ q)
-  where
-    place_of_fault : Judged Grammar → ℕ
-    place_of_fault (reads g) = 0
-    place_of_fault (faults p) = p
+reading_settles words {r = Err e} {s = Err f} p q = ap Err (same_fault words.now p q)
 
 -- what a reading of words says: the judge's answer, and where the rules stand
 pub reading_answers : (words : Bor (List ℕ)) (v : Reading) → ReadOf words (Ok v) →
@@ -89,8 +88,4 @@ reading_placed words v same =
 -- and of the words of a grammar the grammar's numbers, with where its rules stand
 pub reading_of_grammar : (words : Bor (List ℕ)) (v : Reading) → v.words ≡ words → {g : Grammar} → layout words.now ≡ reads g →
     placed_in v ≡ placed g
-reading_of_grammar words v same {g} e = ap told (reading_placed words v same ∙ ap placed_of e)
-  where
-    told : Result Placed Fault → Placed
-    told (Ok p) = p
-    told (Err f) = placed g
+reading_of_grammar words v same {g} e = cc (reading_placed words v same ∙ ap placed_of e)

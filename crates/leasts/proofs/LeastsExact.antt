@@ -2,18 +2,19 @@
 -- exactly where that is its least. Assumes nothing.
 use Prim.Native.Nat.{ℕ, ◌≤◌, ◌<◌}
 use native.Mathlib.Omega.{arith}
-use mathlib.Core.Path.{◌≡◌, refl, subst}
+use mathlib.Core.Path.{◌≡◌, refl, sym, subst, ◌∙◌}
 use mathlib.Core.Logic.{◌↔◌}
 use mathlib.Core.List.{List}
 use denote.Ref.{Bor}
 use Rattle.std.specs.Prelude.{Result, Ok, Err, IsOkAnd}
 use Rattle.layout.specs.declared.judge.Fault.{Fault}
 use Rattle.layout.proofs.ReadingsSame.{reading_of_grammar}
-use Rattle.grammar.specs.Words.{Grammar, layout, reads, faults}
+use Rattle.grammar.specs.Words.{Grammar, layout, reads}
 use Rattle.grammar.specs.Tree.{Tree}
 use Rattle.grammar.specs.Terms.{measure, limit}
 use Rattle.grammar.specs.Least.{Least}
 use Rattle.grammar.proofs.Unique.{least_unique}
+use Rattle.grammar.proofs.ConstructorsDiffer.{reads_not_faults}
 use Rattle.figures.specs.Figures.{no_figure, figure, capped}
 use Rattle.leasts.specs.Promise.{LeastFigure, of_tree, no_tree, FiguresOf, LeastsOf, FiguresFound, FoundOf, placed_leasts}
 use Rattle.leasts.specs.declared.FoundLeasts.{FoundLeasts}
@@ -37,19 +38,16 @@ module _ {g : Grammar} {A : ℕ} where
   least_low (no_tree none) z l = absurd (none z.tree)
 
 module _ (ws : List ℕ) {g : Grammar} (e : layout ws ≡ reads g) where
-  -- the words are no other grammar, and nowhere broken
+  -- the words are no other grammar
   pub figures_of_lem : {found : PlacedLeasts} → LeastsOf ws (Ok found) → FiguresOf g found.leasts found.sizes
   figures_of_lem (h, is, (at, figures)) = let same : h ≡ g = cc in rw same at figures
-
-  no_fault : {p : ℕ} → ¬ (layout ws ≡ faults p)
-  no_fault broken = absurd (let z : ◌≡◌ {A = ℕ} 0 1 = cc in omega arith)
 
   pub no_figure_exactly : (r : Result PlacedLeasts Fault) → LeastsOf ws r →
       IsOkAnd r (λ found. (A : ℕ) → A < g.N → (figure found.leasts A ≡ no_figure) ↔ ¬ Tree g A)
   no_figure_exactly (Ok found) p = λ A lt.
       let least = (figures_of_lem p).least A lt in
       (none_no_tree least, no_tree_none least)
-  no_figure_exactly (Err f) p = no_fault p
+  no_figure_exactly (Err f) p = reads_not_faults (sym e ∙ p)
 
   pub least_exactly : (r : Result PlacedLeasts Fault) → LeastsOf ws r →
       IsOkAnd r (λ found. (A : ℕ) → A < g.N → (x : ℕ) → x ≤ limit → (figure found.leasts A ≡ x) ↔ Least measure g A x)
@@ -58,7 +56,7 @@ module _ (ws : List ℕ) {g : Grammar} (e : layout ws ≡ reads g) where
         λ same. let low : figure found.leasts A ≤ limit = omega arith in rw same at (low_least least low),
         λ other. least_low least other l,
       )
-  least_exactly (Err f) p = no_fault p
+  least_exactly (Err f) p = reads_not_faults (sym e ∙ p)
 
 -- what is found with a reading is, without the words, what `leasts` answers of them
 pub found_placed : (words : Bor (List ℕ)) (found : FoundLeasts) → FiguresFound words found → LeastsOf words.now (Ok (placed_leasts found))

@@ -9,13 +9,14 @@ use lib.ListN.{get_or}
 use lib.Seq.{ext_get_or}
 use denote.Ref.{Bor}
 use Rattle.std.specs.Prelude.{Result, Ok, Err}
-use Rattle.grammar.specs.Words.{Grammar, R, InBounds, layout, reads, faults, Are}
+use Rattle.grammar.specs.Words.{Grammar, R, InBounds, Are}
 use Rattle.grammar.specs.Terms.{measure}
 use Rattle.grammar.proofs.LayoutExact.{in_bounds, rule_at, reads_unique}
 use Rattle.grammar.proofs.Unique.{least_unique}
-use Rattle.layout.specs.Judge.{fault, placed}
+use Rattle.grammar.proofs.ConstructorsDiffer.{reads_not_faults}
+use Rattle.layout.specs.Judge.{placed}
 use Rattle.layout.specs.declared.judge.Fault.{Fault}
-use Rattle.layout.proofs.ReadingsSame.{same_reading}
+use Rattle.layout.proofs.ReadingsSame.{same_reading, same_fault}
 use Rattle.figures.specs.Figures.{no_figure, figure, capped}
 use Rattle.leasts.specs.Promise.{LeastFigure, of_tree, no_tree, SizeFigure, of_trees, no_trees, FiguresOf, LeastsOf, FoundOf}
 use Rattle.leasts.specs.declared.FoundLeasts.{FoundLeasts}
@@ -61,20 +62,14 @@ figures_same ws (g, is, figures) (h, is', others) =
     let same : h ≡ g = cc in
     figures_settle (in_bounds ws is) figures (rw same at others)
 
-no_fault : {g : Grammar} {p : ℕ} → ¬ (reads g ≡ faults p)
-no_fault e = absurd (let z : ◌≡◌ {A = ℕ} 0 1 = cc in omega arith)
-
-same_fault : (ws : List ℕ) {e f : Fault} → layout ws ≡ faults e.place → layout ws ≡ faults f.place → e ≡ f
-same_fault ws {e = e} {f = f} p q = let same : e.place ≡ f.place = cc in ap fault same
-
 -- SETTLED
 pub leasts_settles : (ws : List ℕ) {r s : Result PlacedLeasts Fault} → LeastsOf ws r → LeastsOf ws s → r ≡ s
 leasts_settles ws {r = Ok r} {s = Ok s} (g, is, (at, figures)) (h, is', (at', others)) =
     let (leasts, sizes) = figures_same ws (g, is, figures) (h, is', others) in
     let places = at ∙ ap placed (reads_unique ws is is') ∙ sym at' in
     ap Ok (λ i. record { placed = places i; leasts = leasts i; sizes = sizes i })
-leasts_settles ws {r = Ok r} {s = Err f} (g, is, figures) q = absurd (no_fault (sym is ∙ q))
-leasts_settles ws {r = Err e} {s = Ok s} p (g, is, figures) = absurd (no_fault (sym is ∙ p))
+leasts_settles ws {r = Ok r} {s = Err f} (g, is, figures) q = absurd (reads_not_faults (sym is ∙ q))
+leasts_settles ws {r = Err e} {s = Ok s} p (g, is, figures) = absurd (reads_not_faults (sym is ∙ p))
 leasts_settles ws {r = Err e} {s = Err f} p q = ap Err (same_fault ws p q)
 
 pub found_settles : (words : Bor (List ℕ)) {r s : Result FoundLeasts Fault} → FoundOf words r → FoundOf words s → r ≡ s
@@ -82,6 +77,6 @@ found_settles words {r = Ok r} {s = Ok s} p q =
     let (leasts, sizes) = figures_same words.now p.figures q.figures in
     let reading = same_reading r.reading s.reading (p.same ∙ sym q.same) in
     ap Ok (λ i. record { reading = reading i; leasts = leasts i; sizes = sizes i })
-found_settles words {r = Ok r} {s = Err f} p q = absurd (let (g, is, figures) = p.figures in no_fault (sym is ∙ q))
-found_settles words {r = Err e} {s = Ok s} p q = absurd (let (g, is, figures) = q.figures in no_fault (sym is ∙ p))
+found_settles words {r = Ok r} {s = Err f} p q = absurd (let (g, is, figures) = p.figures in reads_not_faults (sym is ∙ q))
+found_settles words {r = Err e} {s = Ok s} p q = absurd (let (g, is, figures) = q.figures in reads_not_faults (sym is ∙ p))
 found_settles words {r = Err e} {s = Err f} p q = ap Err (same_fault words.now p q)

@@ -1,5 +1,5 @@
 -- The final statements of this crate, each by one citation: what the promises of `leasts` and `FoundLeasts::of` come to. A reader
--- who believes specs/Promise and reads this page is done. Assumes nothing.
+-- who believes specs/Promise and layout's specs/Judge and reads this page is done. Assumes nothing.
 use Prim.Native.Nat.{ℕ, ◌≤◌, ◌<◌}
 use mathlib.Core.Path.{◌≡◌}
 use mathlib.Core.Logic.{◌↔◌}

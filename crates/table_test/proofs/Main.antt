@@ -1,5 +1,5 @@
--- The final statements of this crate, each by one citation: what the promises of `test` and `tested_reading` come to. A reader who believes
--- entries' specs/Table and specs/Promise and reads this page is done. Assumes nothing.
+-- The final statements of this crate, each by one citation: what the promises of `test` and `tested_reading` come to. A reader who
+-- believes entries' specs/Table, layout's specs/Judge and specs/Promise and reads this page is done. Assumes nothing.
 use Prim.Native.Nat.{ℕ}
 use mathlib.Core.Path.{◌≡◌}
 use mathlib.Core.Logic.{◌↔◌}

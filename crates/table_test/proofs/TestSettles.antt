@@ -1,5 +1,5 @@
--- The promises of `test` and of `tested_reading` settle their answers: for each words and each table there is exactly one outcome that each
--- allows, and each answer is given exactly when it should be. Words are refused by one of rows 4 to 7 or are an accepted grammar,
+-- The promises of `test` and of `tested_reading` settle their answers: for each words and each table there is exactly one outcome that
+-- each allows, and each answer is given exactly when it should be. Words are refused by one of rows 4 to 7 or are an accepted grammar,
 -- and then the table is its own or not. Assumes nothing.
 use Prim.Native.Nat.{ℕ}
 use mathlib.Core.Path.{◌≡◌, refl, sym, ap, ◌∙◌}
@@ -107,10 +107,9 @@ module _ (words : Bor (List ℕ)) (table : List ℕ) where
   read_words : {v : Reading} → Tested words table (Some v) → v.words ≡ words
   read_words (its e own is) = is
 
-  only_own : {v : Reading} → Tested words table (Some v) → Are words.now (OwnWith table v.nonterminals v.start v.rules)
-  only_own {v} (its {g = g} e own is) =
-      let same = same_reading v (reading_of words g e) is in
-      rw same (g, e, (refl, refl, refl, own))
+  -- without the words it is what `test` answers of them
+  pub tested_placed : (v : Reading) → Tested words table (Some v) → TestPromise words.now table (Some (placed_in v))
+  tested_placed v (its e own is) = (_, e, (reading_of_grammar words v is e, own))
 
   only_not_its : Tested words table None → ¬ Are words.now (Own table)
   only_not_its (not_its n) = n
@@ -120,7 +119,7 @@ module _ (words : Bor (List ℕ)) (table : List ℕ) where
     tested_its n s k = (to, from)
       where
         to : Numbered r n s k → Are words.now (OwnWith table n s k)
-        to (v, e, x, y, z) = rw (x, y, z) at (only_own (rw e at t))
+        to (v, e, x, y, z) = rw (x, y, z) at (only_told words.now table (tested_placed v (rw e at t)))
 
         from : Are words.now (OwnWith table n s k) → Numbered r n s k
         from (g, e, (x, y, z, own)) =
@@ -132,9 +131,5 @@ module _ (words : Bor (List ℕ)) (table : List ℕ) where
     -- a reading that is told is of these words, and where their rules stand is told with it
     pub tested_places : (v : Reading) → r ≡ Some v → (v.words ≡ words) × (v.places ≡ places_of (layout words.now))
     tested_places v e =
-        let is = read_words (rw e at t) in
-        (is, v.stand ∙ ap (λ (x : Bor (List ℕ)). places_of (layout x.now)) is)
-
-  -- without the words it is what `test` answers of them
-  pub tested_placed : (v : Reading) → Tested words table (Some v) → TestPromise words.now table (Some (placed_in v))
-  tested_placed v (its {g = g} e own is) = (g, e, (reading_of_grammar words v is e, own))
+        let told = rw e at t in
+        (read_words told, test_places words.now table (tested_placed v told) (placed_in v) refl)

@@ -1,5 +1,5 @@
--- What `tested_reading` answers, from what the judge reads of the words and from what the pass says of the grammar of a reading. Assumes
--- nothing.
+-- What `tested_reading` answers, from what the judge reads of the words and from what the pass says of the grammar of a reading.
+-- Assumes nothing.
 use Prim.Native.Nat.{ℕ}
 use mathlib.Core.Path.{◌≡◌, ap, sym, ◌∙◌}
 use mathlib.Core.List.{List}

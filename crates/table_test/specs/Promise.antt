@@ -1,5 +1,5 @@
--- What `test` and `tested_reading` promise: of words and a lent table, whether the words are an accepted grammar and the first words of the
--- table are its own, and if so the grammar's numbers with where its rules stand, or a reading of the words. Assumes nothing.
+-- What `test` and `tested_reading` promise: of words and a lent table, whether the words are an accepted grammar and the first words
+-- of the table are its own, and if so the grammar's numbers with where its rules stand, or a reading of the words. Assumes nothing.
 use Rattle.std.specs.Prelude.{◌≡◌, ℕ, List, Option, Some, None}
 use Rattle.std.specs.Borrow.{Bor}
 use Rattle.grammar.specs.Words.{Grammar, layout, reads, Are}

@@ -1,4 +1,5 @@
--- `table_test::tested_reading` meets its contract: what the judge says of the words, and what the pass says of a grammar. Assumes nothing.
+-- `table_test::tested_reading` meets its contract: what the judge says of the words, and what the pass says of a grammar. Assumes
+-- nothing.
 use mathlib.Core.Path.{sym, ◌∙◌}
 use Rattle.table_test.proofs.WordsTested.{were_read, none_read, own_its, other_not_its}
 use Rattle.table_test.proofs.tested_reading.Goals as goal
